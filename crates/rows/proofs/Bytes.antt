@@ -1,0 +1,112 @@
+-- The sizes that the code takes from an operation's number are those that the sheet's codes have: tests over all operations, which antt computes.
+-- Assumes nothing.
+use mathlib.Core.Path.{_≡_, _∙_, refl, sym, ap}
+use mathlib.Core.Bool.{Bool, true, false}
+use mathlib.Core.List.{List, [], _∷_}
+use Prim.Native.Nat.{ℕ, _+_, _<_, _≤_}
+use native.Mathlib.Omega.{arith}
+use lib.Dec.{T, eqb, ltb, eqb→eq}
+use borrow.Author.Tests.{ne-eqb, lt-leb, le-leb, ltb-true, ltb-false}
+use Rattle.ground.specs.Choice.{pick}
+use Rattle.ground.proofs.Choices.{by-pick}
+use Rattle.ground.proofs.Ranges.{upto, below}
+use Rattle.rows.specs.declared.Coded.{Coded}
+use Rattle.rows.specs.declared.Coded.the-variants.{Code, Unknown, Missing}
+use Rattle.rows.specs.Sheet.{tableOf, page0, page10, page11}
+use Rattle.rows.specs.Lookup.{mergedOf, knownOf, codeOf, forms}
+use Rattle.rows.specs.Sizes.{isWide, isLong, numberAt, ofCode, numberSizeOf, leastAt, lesser, leastAmong, smallestSizeOf, longFrom}
+use Rattle.rows.specs.Quick.{look, placeOf, sixteenOf, nearOperation, pageOf, quickOn, wideOf, immediateBytes, memoryBytes, branchBytes, numberBytes, operandBytes, rowBytes}
+use Rattle.rows.proofs.Codes.{placed-none, alike}
+use Rattle.rows.proofs.Quick.{quickKnown, known-quick, code-agrees}
+
+numberAgrees : ℕ → ℕ → Bool
+numberAgrees o form =
+    eqb (pick (quickKnown o) (numberBytes (mergedOf o) form) 0) (ofCode (numberAt form) (quickOn (mergedOf o) form))
+
+numbers-agree : T (upto (λ (o : ℕ). upto (numberAgrees o) 7) 256)
+unfolding numberAgrees numberBytes wideOf immediateBytes memoryBytes branchBytes numberAt isWide isLong quickOn mergedOf look pageOf sixteenOf nearOperation placeOf tableOf page0 page10 page11 pick
+numbers-agree = tt
+
+-- a function of page and code, asked where the code looks, and by definition
+of-code : (f : ℕ → ℕ → ℕ) (o form : ℕ) → o < 256 → ofCode f (quickOn (mergedOf o) form) ≡ ofCode f (codeOf o form)
+of-code f o form h = ap (ofCode f) (code-agrees o form h) ∙ sym (alike (ofCode f) refl o form)
+
+zero-either : (t : Bool) → pick {A = ℕ} t 0 0 ≡ 0
+unfolding pick
+zero-either true = refl
+zero-either false = refl
+
+no-bytes : (o form : ℕ) → 7 ≤ form → numberBytes o form ≡ 0
+unfolding numberBytes pick
+no-bytes o form h =
+    rw (ne-eqb form 1 (omega arith), ne-eqb form 2 (omega arith), ne-eqb form 4 (omega arith), ne-eqb form 5 (omega arith))
+
+pub number-quick : (o form : ℕ) → o < 256 → pick (knownOf o) (numberBytes (mergedOf o) form) 0 ≡ numberSizeOf o form
+unfolding numberAgrees numberSizeOf
+number-quick o form h = rw (← known-quick o h) (known (ltb form 7) refl)
+  where
+    known : (t : Bool) → ltb form 7 ≡ t → pick (quickKnown o) (numberBytes (mergedOf o) form) 0 ≡ ofCode (numberAt form) (codeOf o form)
+    known true e =
+        eqb→eq (pick (quickKnown o) (numberBytes (mergedOf o) form) 0) (ofCode (numberAt form) (quickOn (mergedOf o) form))
+        (below (numberAgrees o) 7 (below (λ (n : ℕ). upto (numberAgrees n) 7) 256 numbers-agree o h) form (ltb-true form 7 e))
+        ∙ of-code (numberAt form) o form h
+    known false e =
+        rw (no-bytes (mergedOf o) form (ltb-false form 7 e))
+        (zero-either (quickKnown o)
+        ∙ sym (alike (ofCode (numberAt form)) refl o form ∙ ap (ofCode (numberAt form)) (placed-none o form (ltb-false form 7 e))))
+
+abbrev leastQuick : ℕ → List ℕ → ℕ
+leastQuick o [] = 0
+leastQuick o (form ∷ fs) = lesser (ofCode (leastAt form) (quickOn o form)) (leastQuick o fs)
+
+sizeAgrees : ℕ → Bool
+sizeAgrees o = eqb (pick (quickKnown o) (rowBytes (mergedOf o)) 0) (leastQuick (mergedOf o) forms)
+
+sizes-agree : T (upto sizeAgrees 256)
+unfolding sizeAgrees rowBytes operandBytes leastAt numberAt isWide isLong quickOn mergedOf look pageOf sixteenOf nearOperation placeOf tableOf page0 page10 page11 pick
+sizes-agree = tt
+
+least-quick : (o : ℕ) → o < 256 → (fs : List ℕ) → leastQuick (mergedOf o) fs ≡ leastAmong o fs
+least-quick o h [] = refl
+least-quick o h (form ∷ fs) = rw (of-code (leastAt form) o form h, least-quick o h fs)
+
+pub size-quick : (o : ℕ) → o < 256 → pick (knownOf o) (rowBytes (mergedOf o)) 0 ≡ smallestSizeOf o
+unfolding sizeAgrees smallestSizeOf
+size-quick o h =
+    rw (← known-quick o h)
+    (eqb→eq (pick (quickKnown o) (rowBytes (mergedOf o)) 0) (leastQuick (mergedOf o) forms) (below sizeAgrees 256 sizes-agree o h)
+    ∙ least-quick o h forms)
+
+pub memory-small : (o : ℕ) → memoryBytes o ≤ 1
+unfolding memoryBytes
+memory-small o = by-pick (λ (n : ℕ). n ≤ 1) _ (omega arith) (omega arith)
+
+pub operand-small : (o : ℕ) → operandBytes o ≤ 2
+unfolding operandBytes
+operand-small o = by-pick (λ (n : ℕ). n ≤ 2) _ (omega arith) (by-pick (λ (n : ℕ). n ≤ 2) _ (omega arith) (omega arith))
+
+-- at most two bytes of number follow a code
+pub number-size-small : (o form : ℕ) → numberSizeOf o form ≤ 2
+unfolding numberSizeOf numberAt
+number-size-small o form = small (codeOf o form)
+  where
+    small : (a : Coded) → ofCode (numberAt form) a ≤ 2
+    small (Code p c) =
+        by-pick (λ (n : ℕ). n ≤ 2) (eqb form 1) (by-pick (λ (n : ℕ). n ≤ 2) (isWide p c) (omega arith) (omega arith))
+        (by-pick (λ (n : ℕ). n ≤ 2) (eqb form 2) (omega arith)
+        (by-pick (λ (n : ℕ). n ≤ 2) (eqb form 4) (omega arith)
+        (by-pick (λ (n : ℕ). n ≤ 2) (eqb form 5) (by-pick (λ (n : ℕ). n ≤ 2) (isLong p c) (omega arith) (omega arith)) (omega arith))))
+    small Unknown = omega arith
+    small Missing = omega arith
+
+pub long-short : (o : ℕ) → 80 ≤ o → o ≤ 95 → o + 16 ≡ longFrom o
+unfolding longFrom pick
+long-short o h k = rw (le-leb 80 o h, le-leb o 95 k)
+
+pub long-below : (o : ℕ) → o < 80 → o ≡ longFrom o
+unfolding longFrom pick
+long-below o h = rw (lt-leb 80 o h, ne-eqb o 113 (omega arith))
+
+pub long-above : (o : ℕ) → 95 < o → (o ≡ 113 → ⊥) → o ≡ longFrom o
+unfolding longFrom pick
+long-above o h n = rw (le-leb 80 o (omega arith), lt-leb o 95 h, ne-eqb o 113 n)

@@ -1,0 +1,11 @@
+pub mod Find
+pub mod Pages
+pub mod Codes
+pub mod Tests
+pub mod Quick
+pub mod Bytes
+pub mod Laws
+pub mod Lengths
+pub mod Near
+pub mod Counts
+pub mod Only

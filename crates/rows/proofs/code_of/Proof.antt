@@ -1,0 +1,66 @@
+-- `rows::code_of` meets its contract: the one table that it reads has the row, if any has.
+-- Assumes nothing.
+use mathlib.Core.Path.{_∙_, sym}
+use native.Mathlib.Omega.{arith}
+use Rattle.rows.proofs.Quick.{code-found}
+use borrow.Author.Needs.{needs}
+use Rattle.rows.proofs.code_of.Statement.{statement}
+use Rattle.rows.proofs.code_of.Tie as tie
+
+merged-requires : tie.Need-merged-requires
+merged-requires c κs = search needs
+
+page-of-requires : tie.Need-page-of-requires
+page-of-requires c κs = search needs
+
+near-operation-requires : tie.Need-near-operation-requires
+near-operation-requires c κs = search needs
+
+find-in-requires : tie.Need-find-in-requires
+find-in-requires c κs = search needs
+
+enum-known-found : tie.Need-enum-known-found
+enum-known-found c = search needs
+
+cast-t10 : tie.Need-cast-t10
+cast-t10 c = search needs
+
+enum-told : tie.Need-enum-told
+enum-told c = search needs
+
+absent-requires : tie.Need-absent-requires
+absent-requires c κs = search needs
+
+returns : tie.Need-returns
+returns c =
+    let a = c .before .before .before .before .before .before .before .args in
+    code-found (a .operation) (a .form) _ _ _ _ (omega arith)
+    (c .before .before .before .before .before .before .merged .ensures)
+    (c .before .before .before .before .before .page-of .ensures)
+    (c .before .before .before .before .near-operation .ensures)
+    (sym (c .before .found .given .1) ∙ c .before .before .before .find-in .ensures)
+
+returns-2 : tie.Need-returns-2
+returns-2 c =
+    let a = c .before .before .before .before .before .before .before .args in
+    c .absent .ensures
+    ∙ code-found (a .operation) (a .form) _ _ _ _ (omega arith)
+    (c .before .before .before .before .before .before .merged .ensures)
+    (c .before .before .before .before .before .page-of .ensures)
+    (c .before .before .before .before .near-operation .ensures)
+    (sym (c .before .enum-told .given .1) ∙ c .before .before .before .find-in .ensures)
+
+pub code-of-spec : {M : Type 1} → statement M
+code-of-spec =
+    tie.close
+    (tie.spec
+    merged-requires
+    page-of-requires
+    near-operation-requires
+    find-in-requires
+    enum-known-found
+    cast-t10
+    enum-told
+    absent-requires
+    returns
+    returns-2)

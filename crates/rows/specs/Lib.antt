@@ -1,0 +1,5 @@
+pub mod Forms
+pub mod Sheet
+pub mod Lookup
+pub mod Sizes
+pub mod Quick
