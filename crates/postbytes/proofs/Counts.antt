@@ -1,0 +1,93 @@
+-- Which postbytes are read and how long each form is, held by computation against a list of its own, written from the sheet's columns of bytes: what
+-- writing and reading share, the round trip cannot see.
+-- Assumes nothing.
+use mathlib.Core.Path.{_≡_, refl, sym, ap, _∙_}
+use mathlib.Core.Bool.{Bool, true, false}
+use mathlib.Core.List.{List, [], _∷_, _++_, map}
+use Prim.Native.Nat.{ℕ, zero, suc, _+_, _-_, _/_, _%_, _^_, _<_}
+use lib.Dec.{T, eqb, eqb→eq}
+use lib.ListN.{length, replicate}
+use Rattle.ground.specs.Choice.{pick}
+use Rattle.ground.proofs.Choices.{by-pick}
+use Rattle.ground.proofs.Ranges.{upto, below}
+use Rattle.values.specs.Widths.{extended}
+use Rattle.postbytes.specs.declared.Addressing.the-variants.{Offset}
+use Rattle.postbytes.specs.declared.Pair.{Pair}
+use Rattle.postbytes.specs.declared.Pair.the-variants.{Is, Undefined}
+use Rattle.postbytes.specs.Registers.{A, B, X, Y, U, S, PC, CC, DP}
+use Rattle.postbytes.specs.Lists.{otherOf, boxes, sizeOf}
+use Rattle.postbytes.specs.Reading.{directOnly, counterOnly, addressOnly, highOf, shapeOf, extraOf, fillOf, isDefined}
+use Rattle.postbytes.specs.ListsRead.{ticked, registersOf, pairOf}
+
+-- how many numbers below n pass a test
+abbrev pub countBelow : (ℕ → Bool) → ℕ → ℕ
+countBelow f zero = 0
+countBelow f (suc n) = pick (f n) 1 0 + countBelow f n
+
+-- "205 postbytes are read, 51 refused"
+pub counted : (countBelow (λ p. isDefined (shapeOf p)) 256 ≡ 205) × (256 - countBelow (λ p. isDefined (shapeOf p)) 256 ≡ 51)
+unfolding shapeOf highOf directOnly counterOnly addressOnly pick
+counted = (refl, refl)
+
+abbrev isPair : Pair → Bool
+isPair (Is s d) = true
+isPair Undefined = false
+
+-- six registers of 16 bits and four of 8, each with each of its size
+pub pairs-counted : countBelow (λ p. isPair (pairOf p)) 256 ≡ 52
+unfolding pairOf sizeOf pick
+pairs-counted = refl
+
+-- every byte is a push list, and the 256 lists differ: the boxes of a set, ticked again, are the byte
+abbrev retick : List ℕ → ℕ → ℕ
+retick [] set = 0
+retick (r ∷ rs) set = pick (eqb (set / 2 ^ r % 2) 1) (2 ^ length rs) 0 + retick rs set
+
+abbrev Apart : List ℕ → Type 0
+Apart rs = (a b : ℕ) → a < 256 → b < 256 → ticked rs a ≡ ticked rs b → a ≡ b
+
+apart : (rs : List ℕ) → T (upto (λ k. eqb (retick rs (ticked rs k)) k) 256) → Apart rs
+apart rs t a b ha hb e =
+    let same : (k : ℕ) → k < 256 → retick rs (ticked rs k) ≡ k =
+    λ k h. eqb→eq (retick rs (ticked rs k)) k (below (λ (n : ℕ). eqb (retick rs (ticked rs n)) n) 256 t k h)
+    in
+    sym (same a ha) ∙ ap (retick rs) e ∙ same b hb
+
+pub lists-differ : (own a b : ℕ) → a < 256 → b < 256 → registersOf own a ≡ registersOf own b → a ≡ b
+unfolding registersOf otherOf pick
+lists-differ own =
+    by-pick (λ (other : ℕ). Apart (PC ∷ other ∷ Y ∷ X ∷ DP ∷ B ∷ A ∷ CC ∷ [])) (eqb own U) (apart (boxes U) tt) (apart (boxes S) tt)
+
+-- n numbers from k on
+abbrev from : ℕ → ℕ → List ℕ
+from k zero = []
+from k (suc n) = k ∷ from (suc k) n
+
+-- the bytes of a form, its postbyte counted; none where the sheet has no such postbyte
+abbrev bytesAt : ℕ → ℕ
+bytesAt p = pick (isDefined (shapeOf p)) (1 + extraOf (shapeOf p)) 0
+
+-- the sheet's map of postbytes, 16 to a row: 00 to 7F have their offset in five bits
+abbrev sheetBytes : List ℕ
+sheetBytes =
+    replicate 128 1
+    ++ (1 ∷ 1 ∷ 1 ∷ 1 ∷ 1 ∷ 1 ∷ 1 ∷ 0 ∷ 2 ∷ 3 ∷ 0 ∷ 1 ∷ 2 ∷ 3 ∷ 0 ∷ 0 ∷ [])
+    ++ (0 ∷ 1 ∷ 0 ∷ 1 ∷ 1 ∷ 1 ∷ 1 ∷ 0 ∷ 2 ∷ 3 ∷ 0 ∷ 1 ∷ 2 ∷ 3 ∷ 0 ∷ 3 ∷ [])
+    ++ (1 ∷ 1 ∷ 1 ∷ 1 ∷ 1 ∷ 1 ∷ 1 ∷ 0 ∷ 2 ∷ 3 ∷ 0 ∷ 1 ∷ 0 ∷ 0 ∷ 0 ∷ 0 ∷ [])
+    ++ (0 ∷ 1 ∷ 0 ∷ 1 ∷ 1 ∷ 1 ∷ 1 ∷ 0 ∷ 2 ∷ 3 ∷ 0 ∷ 1 ∷ 0 ∷ 0 ∷ 0 ∷ 0 ∷ [])
+    ++ (1 ∷ 1 ∷ 1 ∷ 1 ∷ 1 ∷ 1 ∷ 1 ∷ 0 ∷ 2 ∷ 3 ∷ 0 ∷ 1 ∷ 0 ∷ 0 ∷ 0 ∷ 0 ∷ [])
+    ++ (0 ∷ 1 ∷ 0 ∷ 1 ∷ 1 ∷ 1 ∷ 1 ∷ 0 ∷ 2 ∷ 3 ∷ 0 ∷ 1 ∷ 0 ∷ 0 ∷ 0 ∷ 0 ∷ [])
+    ++ (1 ∷ 1 ∷ 1 ∷ 1 ∷ 1 ∷ 1 ∷ 1 ∷ 0 ∷ 2 ∷ 3 ∷ 0 ∷ 1 ∷ 0 ∷ 0 ∷ 0 ∷ 0 ∷ [])
+    ++ (0 ∷ 1 ∷ 0 ∷ 1 ∷ 1 ∷ 1 ∷ 1 ∷ 0 ∷ 2 ∷ 3 ∷ 0 ∷ 1 ∷ 0 ∷ 0 ∷ 0 ∷ 0 ∷ [])
+
+pub lengths : map bytesAt (from 0 256) ≡ sheetBytes
+unfolding shapeOf highOf directOnly counterOnly addressOnly pick
+lengths = refl
+
+-- "Five-bit zero is read as offset zero", as 84, A4, C4 and E4 are
+pub five-bit-zero :
+    (b c : ℕ) →
+    (map (λ p. fillOf (shapeOf p) b c) (0x00 ∷ 0x20 ∷ 0x40 ∷ 0x60 ∷ []) ≡ map (λ r. Offset r false 0) (X ∷ Y ∷ U ∷ S ∷ []))
+    × (map (λ p. fillOf (shapeOf p) b c) (0x84 ∷ 0xA4 ∷ 0xC4 ∷ 0xE4 ∷ []) ≡ map (λ r. Offset r false 0) (X ∷ Y ∷ U ∷ S ∷ []))
+unfolding shapeOf highOf extended pick
+five-bit-zero b c = (refl, refl)

@@ -1,0 +1,9 @@
+pub mod Tests
+pub mod Signs
+pub mod Round
+pub mod Named
+pub mod ListsRound
+pub mod Counts
+pub mod Cases
+pub mod Only
+pub mod Bytes

@@ -1,0 +1,19 @@
+-- `postbytes::lists::other_set` meets its contract.
+-- Assumes nothing.
+use Rattle.ground.specs.Choice.{pick}
+use native.Mathlib.Omega.{arith}
+use borrow.Author.Tests.{eq-eqb, ne-eqb}
+use Rattle.postbytes.specs.Lists.{otherOf}
+use Rattle.postbytes.proofs.lists.other_set.Statement.{statement}
+use Rattle.postbytes.proofs.lists.other_set.Tie as tie
+
+returns : tie.Need-returns
+unfolding otherOf pick
+returns c = (rw (eq-eqb _ _ (c .if1 .taken)), omega arith)
+
+returns-2 : tie.Need-returns-2
+unfolding otherOf pick
+returns-2 c = (rw (ne-eqb _ _ (c .if1 .left)), omega arith)
+
+pub other-set-spec : {M : Type 1} → statement M
+other-set-spec = tie.close (tie.spec returns returns-2)
