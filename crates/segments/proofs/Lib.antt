@@ -1,0 +1,5 @@
+pub mod Laws
+pub mod Sorted
+pub mod Ends
+pub mod Cases
+pub mod Only
