@@ -1,0 +1,11 @@
+pub mod Product
+pub mod Laws
+pub mod Moves
+pub mod Moved
+pub mod Values
+pub mod Every
+pub mod Fits
+pub mod Order
+pub mod Circles
+pub mod Cases
+pub mod Only

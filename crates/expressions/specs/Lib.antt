@@ -1,0 +1,4 @@
+pub mod Finding
+pub mod Answers
+pub mod Moving
+pub mod Steps
