@@ -1,0 +1,9 @@
+pub mod Writing
+pub mod Tables
+pub mod Steps
+pub mod Rounds
+pub mod Answers
+pub mod Runs
+pub mod Fine
+pub mod Cases
+pub mod Only

@@ -1,0 +1,10 @@
+pub mod Hex
+pub mod Line
+pub mod Objects
+pub mod Penned
+pub mod Rows
+pub mod Text
+pub mod Written
+pub mod Runs
+pub mod Fine
+pub mod Steps
