@@ -1,0 +1,157 @@
+-- The value of a digit, by the range that its character is in.
+-- Assumes nothing.
+use borrow.Author.Tests.{le-leb, lt-leb, lt-ltb, le-ltb, ltb-true, ltb-false}
+use mathlib.Core.Path.{_≡_, refl, sym, ap, _∙_}
+use mathlib.Core.Bool.{Bool, true, false, _&&_, and-false, false≢true}
+use mathlib.Core.List.{List, [], _∷_}
+use Prim.Native.Nat.{ℕ, zero, suc, _+_, _-_, _*_, _%_, _≤_, _<_}
+use native.Mathlib.Nat.{add-zero, not-suc-le-zero}
+use native.Mathlib.Numerals.{sub-one}
+use native.Mathlib.Omega.{arith}
+use lib.Dec.{ltb, leb}
+use lib.ListN.{length, getD, take, drop, length-drop}
+use lib.Seq.{getD-drop, drop-drop}
+use Rattle.ground.specs.Choice.{pick}
+use Rattle.ground.proofs.Choices.{pick-true, pick-false}
+use Rattle.records.specs.Line.{sum}
+use Rattle.reader.specs.Digits.{digitOf, pairOf, bytesIn}
+use Rattle.reader.specs.Steps.{pairAt}
+
+pub both-true : (a b : Bool) → (a && b) ≡ true → (a ≡ true) × (b ≡ true)
+both-true true b e = (refl, e)
+both-true false b e = absurd (false≢true e)
+
+module _ (a b c : ℕ) where
+  pub inside : a ≤ c → c ≤ b → (leb a c && leb c b) ≡ true
+  inside h k = rw (le-leb a c h, le-leb c b k)
+
+  pub under : c < a → (leb a c && leb c b) ≡ false
+  under h = rw (lt-leb a c h)
+
+  pub over : b < c → (leb a c && leb c b) ≡ false
+  over h = rw (lt-leb c b h) (and-false (leb a c))
+
+module _ (c : ℕ) where
+  pub digit-decimal : 48 ≤ c → c ≤ 57 → c - 48 ≡ digitOf c
+  unfolding digitOf
+  digit-decimal h k = sym (pick-true _ _ (inside 48 57 c h k))
+
+  pub digit-upper : 65 ≤ c → c ≤ 70 → c - 55 ≡ digitOf c
+  unfolding digitOf
+  digit-upper h k = sym (pick-false _ _ (over 48 57 c (omega arith)) ∙ pick-true _ _ (inside 65 70 c h k))
+
+  pub digit-lower : 97 ≤ c → c ≤ 102 → c - 87 ≡ digitOf c
+  unfolding digitOf
+  digit-lower h k =
+      sym (pick-false _ _ (over 48 57 c (omega arith))
+      ∙ pick-false _ _ (over 65 70 c (omega arith))
+      ∙ pick-true _ _ (inside 97 102 c h k))
+
+  -- a character in none of the ranges, by what it is not in
+  pub digit-none :
+      (leb 48 c && leb c 57) ≡ false → (leb 65 c && leb c 70) ≡ false → (leb 97 c && leb c 102) ≡ false → 16 ≡ digitOf c
+  unfolding digitOf
+  digit-none p q r = sym (pick-false _ _ p ∙ pick-false _ _ q ∙ pick-false _ _ r)
+
+-- two values that are below 16 make a byte
+pub pair-small : (h l : ℕ) → (ltb h 16 && ltb l 16) ≡ true → 16 * h + l ≤ 256
+pair-small h l t = let b = both-true (ltb h 16) (ltb l 16) t in omega (arith, ltb-true h 16 (b .0), ltb-true l 16 (b .1))
+
+-- two characters, by the test of their values
+module _ (h l x y : ℕ) (p : h ≡ digitOf x) (q : l ≡ digitOf y) where
+  pub pair-right : (ltb h 16 && ltb l 16) ≡ true → 16 * h + l ≡ pairOf x y
+  unfolding pairOf
+  pair-right t = rw (← p, ← q) (sym (pick-true _ _ t))
+
+  pub pair-wrong : (ltb h 16 && ltb l 16) ≡ false → 256 ≡ pairOf x y
+  unfolding pairOf
+  pair-wrong t = rw (← p, ← q) (sym (pick-false _ _ t))
+
+-- the front of a text is a pair of digits and what stands behind it
+first-pair : (t : List ℕ) → pairOf (getD t 0 0) (getD t 1 0) < 256
+    → (2 ≤ length t) × (bytesIn t ≡ pairOf (getD t 0 0) (getD t 1 0) ∷ bytesIn (drop 2 t))
+unfolding digitOf pairOf pick
+first-pair [] h = let z : 256 < 256 = h in let n : ⊥ = omega arith in absurd n
+first-pair (x ∷ []) h =
+    let e : pairOf x 0 ≡ 256 = pick-false _ _ (and-false (ltb (digitOf x) 16)) in
+    let n : ⊥ = omega (arith, e, h) in absurd n
+first-pair (x ∷ y ∷ t) h = (omega arith, pick-true _ _ (lt-ltb (pairOf x y) 256 h))
+
+-- or it is none
+first-none : (t : List ℕ) → 256 ≤ pairOf (getD t 0 0) (getD t 1 0) → bytesIn t ≡ []
+first-none [] h = refl
+first-none (x ∷ []) h = refl
+first-none (x ∷ y ∷ t) h = pick-false _ _ (le-ltb (pairOf x y) 256 h)
+
+pub at-front : (s : List ℕ) (i : ℕ) → getD (drop i s) 0 0 ≡ getD s i 0
+at-front s i = getD-drop i s 0 0 ∙ ap (λ (k : ℕ). getD s k 0) (add-zero i)
+
+pair-front : (s : List ℕ) (i : ℕ) → pairAt s i ≡ pairOf (getD (drop i s) 0 0) (getD (drop i s) 1 0)
+unfolding pairAt
+pair-front s i = rw (at-front s i, getD-drop i s 1 0)
+
+-- the same at a place of a text
+module _ (s : List ℕ) (i : ℕ) where
+  pub pair-there : pairAt s i < 256 → (i + 2 ≤ length s) × (bytesIn (drop i s) ≡ pairAt s i ∷ bytesIn (drop (i + 2) s))
+  pair-there h =
+      let f = first-pair (drop i s) (rw pair-front at h) in
+      (omega (arith, f .0, length-drop i s), f .1 ∙ rw (← pair-front, drop-drop))
+
+  pub none-there : 256 ≤ pairAt s i → bytesIn (drop i s) ≡ []
+  none-there h = first-none (drop i s) (rw pair-front at h)
+
+  -- a turn of the loop over pairs
+  pub pairs-on : pairAt s i < 256 → i + 2 + 2 * length (bytesIn (drop (i + 2) s)) ≡ i + 2 * length (bytesIn (drop i s))
+  pairs-on h = rw (pair-there h .1) (omega arith)
+
+  pub sums-on : (total : ℕ) → pairAt s i < 256
+      → ((total + pairAt s i) % 256 + sum (bytesIn (drop (i + 2) s))) % 256 ≡ (total + sum (bytesIn (drop i s))) % 256
+  sums-on total h = rw (pair-there h .1) (omega arith)
+
+  some-there : (b : Bool) → ltb (pairAt s i) 256 ≡ b → 0 < length (bytesIn (drop i s)) → pairAt s i < 256
+  some-there true t h = ltb-true (pairAt s i) 256 t
+  some-there false t h = let n : ⊥ = omega (arith, ap length (none-there (ltb-false (pairAt s i) 256 t))) in absurd n
+
+  pub pair-byte : 0 < length (bytesIn (drop i s)) → pairAt s i < 256
+  pair-byte h = some-there (ltb (pairAt s i) 256) refl h
+
+-- the bytes after the first k are those of the digits after the first 2 * k
+pub bytes-after : (k : ℕ) (s : List ℕ) (i : ℕ) → k ≤ length (bytesIn (drop i s)) → drop k (bytesIn (drop i s)) ≡ bytesIn (drop (i + 2 * k) s)
+bytes-after zero s i h = let e : i ≡ i + 2 * 0 = omega arith in ap (λ (j : ℕ). bytesIn (drop j s)) e
+bytes-after (suc k) s i h =
+    let p = pair-there s i (pair-byte s i (omega arith)) .1 in
+    let n : k ≤ length (bytesIn (drop (i + 2) s)) = omega (arith, ap length p, h) in
+    let e : i + 2 + 2 * k ≡ i + 2 * suc k = omega arith in
+    ap (drop (suc k)) p ∙ bytes-after k s (i + 2) n ∙ ap (λ (j : ℕ). bytesIn (drop j s)) e
+
+-- the byte at a place of them
+module _ (s : List ℕ) (i k : ℕ) (h : k < length (bytesIn (drop i s))) where
+  left-there : 0 < length (bytesIn (drop (i + 2 * k) s))
+  left-there = omega (arith, ap length (bytes-after k s i (omega arith)), length-drop k (bytesIn (drop i s)))
+
+  pub byte-small : pairAt s (i + 2 * k) < 256
+  byte-small = pair-byte s (i + 2 * k) left-there
+
+  pub byte-there : getD (bytesIn (drop i s)) k 0 ≡ pairAt s (i + 2 * k)
+  byte-there =
+      sym (at-front (bytesIn (drop i s)) k)
+      ∙ ap (λ (l : List ℕ). getD l 0 0) (bytes-after k s i (omega arith) ∙ pair-there s (i + 2 * k) byte-small .1)
+
+-- the next of the pairs that are left
+take-next : (n x : ℕ) (xs : List ℕ) → 0 < n → take n (x ∷ xs) ≡ x ∷ take (n - 1) xs
+take-next zero x xs h = absurd (not-suc-le-zero h)
+take-next (suc n) x xs h = ap (λ (m : ℕ). x ∷ take m xs) (sym (sub-one (suc n)))
+
+module _ (s : List ℕ) (i left : ℕ) (h : 0 < left) (k : left ≤ length (bytesIn (drop i s))) where
+  pub pair-left : pairAt s i < 256
+  pair-left = pair-byte s i (omega arith)
+
+  pub take-pair : take left (bytesIn (drop i s)) ≡ pairAt s i ∷ take (left - 1) (bytesIn (drop (i + 2) s))
+  take-pair = ap (take left) (pair-there s i pair-left .1) ∙ take-next left (pairAt s i) (bytesIn (drop (i + 2) s)) h
+
+  pub pairs-left : left - 1 ≤ length (bytesIn (drop (i + 2) s))
+  pairs-left = omega (arith, ap length (pair-there s i pair-left .1))
+
+pub take-none : (n : ℕ) (xs : List ℕ) → n ≤ 0 → take n xs ≡ []
+take-none zero xs h = refl
+take-none (suc n) xs h = absurd (not-suc-le-zero h)

@@ -1,0 +1,15 @@
+pub mod Digits
+pub mod Lines
+pub mod Records
+pub mod Joins
+pub mod Tallies
+pub mod Answers
+pub mod Stretches
+pub mod Handing
+pub mod Ahead
+pub mod Same
+pub mod Back
+pub mod Twins
+pub mod Round
+pub mod Cases
+pub mod Only
