@@ -1,0 +1,10 @@
+pub mod Bounds
+pub mod Origins
+pub mod Bytes
+pub mod Instructions
+pub mod Judged
+pub mod Meant
+pub mod Runs
+pub mod Back
+pub mod Cases
+pub mod Only

@@ -1,0 +1,5 @@
+pub mod Origin
+pub mod Meaning
+pub mod Operands
+pub mod Front
+pub mod Run
