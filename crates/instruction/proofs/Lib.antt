@@ -1,0 +1,9 @@
+pub mod Tests
+pub mod Padded
+pub mod Keeps
+pub mod Cases
+pub mod Rows
+pub mod Before
+pub mod Fits
+pub mod Sizes
+pub mod Only

@@ -1,0 +1,53 @@
+-- 01, "Choosing the form": the form that a record asks for.
+use Prim.Native.Nat.{ℕ}
+use mathlib.Core.Bool.{Bool, _&&_, _||_, not}
+use lib.Dec.{eqb, ltb, leb}
+use Rattle.ground.specs.Choice.{pick}
+use Rattle.rows.specs.Forms.{inherent, immediate, direct, indexed, extended, relative, register}
+use Rattle.rows.specs.Lookup.{hasFormOf}
+use Rattle.instruction.specs.declared.Operand.{Operand}
+use Rattle.instruction.specs.declared.Values.{Values}
+use Rattle.instruction.specs.Names.{modeRegister, modePcRelative, modeExtended, modeDirect, modeImmediate, modeInherent}
+
+-- the page test: an address that one byte reaches
+unfoldable pub onPage : Bool → ℕ → Bool
+onPage dirty n = not dirty && ltb n 256
+
+-- "clean, unforced and below 256 is Direct", when it is made; "clean, unforced, below 256, Extended or Direct: becomes Direct", at each build
+unfoldable pub becomesDirect : Operand → Values → Bool → Bool
+becomesDirect o v dirty = v .given && (not (o .forced) && onPage dirty (v .unsigned .number))
+
+-- "Extended mode: indirect is Indexed; a row without Extended but with Relative is Relative; clean, unforced and below 256 is Direct"
+unfoldable pub extendedForm : Operand → Values → Bool → ℕ
+extendedForm o v dirty =
+    pick (o .indirect) indexed
+    (pick (not (hasFormOf (o .operation) extended) && hasFormOf (o .operation) relative) relative
+    (pick (becomesDirect o v dirty) direct extended))
+
+-- "These six rows take Register mode only"; "Elsewhere Register mode is the accumulator offset"
+unfoldable pub registerForm : Operand → ℕ
+registerForm o = pick (hasFormOf (o .operation) register) register indexed
+
+-- Offset, PCRelative and IncDec are indexed
+unfoldable pub formOf : Operand → Values → Bool → ℕ
+formOf o v dirty =
+    pick (eqb (o .mode) modeRegister) (registerForm o)
+    (pick (eqb (o .mode) modeExtended) (extendedForm o v dirty)
+    (pick (eqb (o .mode) modeDirect) direct
+    (pick (eqb (o .mode) modeImmediate) immediate
+    (pick (eqb (o .mode) modeInherent) inherent indexed))))
+
+-- a kept instruction's form may be one that its mode never has: no postbyte is of mode Direct, Immediate or Inherent, and a list of registers is of
+-- "Register mode only"
+unfoldable pub strays : ℕ → ℕ → Bool
+strays mode form = (eqb form indexed && ltb modeExtended mode) || (eqb form register && not (eqb mode modeRegister))
+
+-- "the row has no such mode"
+unfoldable pub lacks : Operand → ℕ → Bool
+lacks o form = not (hasFormOf (o .operation) form) || strays (o .mode) form
+
+-- "required value missing": Extended (indirect too), Direct, Immediate and PCRelative need one, and so does any form that is a number
+unfoldable pub needsValue : ℕ → ℕ → Bool
+needsValue mode form =
+    (eqb mode modePcRelative || (leb modeExtended mode && leb mode modeImmediate))
+    || (eqb form immediate || (eqb form direct || (eqb form extended || eqb form relative)))

@@ -1,0 +1,6 @@
+pub mod Names
+pub mod Records
+pub mod Forms
+pub mod Choosing
+pub mod Bytes
+pub mod Building

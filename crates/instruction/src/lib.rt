@@ -1,0 +1,359 @@
+// One instruction: its operand record, the form that is chosen for it, the kept instruction and its build.
+mod bytes;
+mod choosing;
+mod forms;
+pub mod names;
+mod records;
+
+use bytes::lay;
+use choosing::choose;
+use forms::form_for;
+use forms::is_lacking;
+use forms::needs_value;
+use ground::buffers::store;
+use ground::refusals;
+use names::*;
+use postbytes::Index;
+use records::is_lawful;
+use records::is_recognised;
+use records::is_sound;
+use rows::forms::DIRECT;
+use values::Value;
+ghost use mathlib.Core.Path.{_≡_};
+ghost use Prim.Native.Nat.{_≤_};
+ghost use lib.ListN.{length, take};
+ghost use Rattle.ground.specs.Stores.{put};
+ghost use Rattle.instruction.specs.Building.{noOperand, noInstruction, noValues, instructionOf, unmade, madeAs, makeOf, operandRefusal, earlyOf, dirtiesOf, refusedWith, acceptedOf, buildOf, handed, freshOf, placedOf, bufferOf};
+
+// What a build does not change: the operand as the parser saw it. Any number in it may be wrong.
+pub struct Operand {
+    pub operation: u8,
+    pub mode: u8,
+    pub indirect: bool,
+    pub forced: bool,
+    pub registers: [u8; 8],
+    pub count: u8,
+    pub step: u8,
+    pub widening: bool,
+}
+
+// The value of an operand, if it has one: its unsigned and its signed evaluation.
+pub struct Values {
+    pub given: bool,
+    pub unsigned: Value,
+    pub signed: Value,
+}
+
+// The operand record: with the page and the values of one build.
+pub struct Record {
+    pub operand: Operand,
+    pub dirty: bool,
+    pub values: Values,
+}
+
+// A kept instruction: with its form, its trial mark and whether its short branch was made long.
+pub struct Instruction {
+    pub operand: Operand,
+    pub form: u8,
+    pub trial: bool,
+    pub widened: bool,
+}
+
+pub struct Made {
+    pub refusal: u8,
+    pub instruction: Instruction,
+}
+
+pub struct Built {
+    pub refusal: u8,
+    pub instruction: Instruction,
+    pub bytes: [u8; 5],
+    pub length: u8,
+    pub dirties: bool,
+}
+
+// What a build into a lent buffer answers beside the bytes stored.
+pub struct Placed {
+    pub refusal: u8,
+    pub instruction: Instruction,
+    pub length: u8,
+    pub dirties: bool,
+}
+
+// What stands after the code, before it is bytes.
+pub enum Argument {
+    Nothing,
+    Number(u16),
+    Target(u16),
+    Indexed(Index),
+    Relative { target: u16, indirect: bool },
+    Registers(u8),
+}
+
+// What a build settles on: the operation whose bytes it emits, the form, the marks and the argument; or a refusal.
+pub struct Chosen {
+    pub refusal: u8,
+    pub operation: u8,
+    pub form: u8,
+    pub trial: bool,
+    pub widened: bool,
+    pub argument: Argument,
+}
+
+// Five bytes, and how many there are.
+pub struct Laid {
+    pub bytes: [u8; 5],
+    pub length: u8,
+}
+
+fn no_operand() -> Operand
+    ensures { λ r. ⌜ r ≡ noOperand ⌝ }
+{
+    Operand {
+        operation: 0,
+        mode: 0,
+        indirect: false,
+        forced: false,
+        registers: [0; 8],
+        count: 0,
+        step: 0,
+        widening: false,
+    }
+}
+
+fn no_instruction() -> Instruction
+    ensures { λ r. ⌜ r ≡ noInstruction ⌝ }
+{
+    let operand = no_operand();
+    Instruction {
+        operand,
+        form: 0,
+        trial: false,
+        widened: false,
+    }
+}
+
+fn no_values() -> Values
+    ensures { λ r. ⌜ r ≡ noValues ⌝ }
+{
+    let none = Value {
+        number: 0,
+        width: 0,
+    };
+    Values {
+        given: false,
+        unsigned: none,
+        signed: none,
+    }
+}
+
+fn instruction_of(operand: Operand, form: u8) -> Instruction
+    ensures { λ r. ⌜ r ≡ instructionOf operand form ⌝ }
+{
+    let trial = (operand.mode == MODE_EXTENDED) & (form == DIRECT);
+    Instruction {
+        operand,
+        form,
+        trial,
+        widened: false,
+    }
+}
+
+fn unmade(n: u8) -> Made
+    ensures { λ r. ⌜ r ≡ unmade n ⌝ }
+{
+    let instruction = no_instruction();
+    Made {
+        refusal: n,
+        instruction,
+    }
+}
+
+fn made_as(o: Operand, form: u8) -> Made
+    ensures { λ r. ⌜ r ≡ madeAs o form ⌝ }
+{
+    if is_lacking(o, form) {
+        return unmade(refusals::NO_SUCH_MODE);
+    }
+    let instruction = instruction_of(o, form);
+    Made {
+        refusal: 0,
+        instruction,
+    }
+}
+
+// An accepted instruction leaves the page dirty.
+fn dirties(o: Operand) -> bool
+    ensures { λ r. ⌜ r ≡ dirtiesOf o ⌝ }
+{
+    let registers = o.registers;
+    let operation = o.operation;
+    let transfer = operation == TFR;
+    if transfer {
+        return registers[1] == DP;
+    }
+    let names = (operation == EXG) | ((operation == PULS) | (operation == PULU));
+    if names {
+        return postbytes::lists::among(DP, registers, o.count);
+    }
+    false
+}
+
+fn refused(i: Instruction, n: u8) -> Built
+    ensures { λ r. ⌜ r ≡ refusedWith i n ⌝ }
+{
+    Built {
+        refusal: n,
+        instruction: i,
+        bytes: [0; 5],
+        length: 0,
+        dirties: false,
+    }
+}
+
+impl Operand {
+    // 1 where a number is unknown, 2 where the row has no such mode, else 0: what is told of an operand before any value is evaluated.
+    pub fn refusal(self) -> u8
+        ensures { λ r. ⌜ r ≡ operandRefusal self ⌝ }
+    {
+        if is_recognised(self) {
+            let form = form_for(self, no_values(), false);
+            if is_lacking(self, form) {
+                return refusals::NO_SUCH_MODE;
+            }
+            return 0;
+        }
+        refusals::UNKNOWN
+    }
+}
+
+impl Instruction {
+    // Makes an instruction of a record: refused 1 where a number is wrong, then 2 where the row has no such mode.
+    pub fn make(r: Record) -> Made
+        ensures { λ m. ⌜ m ≡ makeOf r ⌝ }
+    {
+        let o = r.operand;
+        let v = r.values;
+        let known = is_recognised(o) & is_lawful(v);
+        if known {
+            return made_as(o, form_for(o, v, r.dirty));
+        }
+        unmade(refusals::UNKNOWN)
+    }
+
+    // 1, 2 and 3.
+    fn early(self, v: Values) -> u8
+        ensures { λ r. ⌜ r ≡ earlyOf self v ⌝ }
+    {
+        let o = self.operand;
+        let unsound = !is_sound(self, v);
+        if unsound {
+            return refusals::UNKNOWN;
+        }
+        if is_lacking(o, self.form) {
+            return refusals::NO_SUCH_MODE;
+        }
+        let missing = needs_value(o.mode, self.form) & !v.given;
+        if missing {
+            return refusals::VALUE_MISSING;
+        }
+        0
+    }
+
+    // Takes on what a build settled, and hands it back beside its bytes.
+    fn accept(mut self, c: Chosen, address: u16) -> Built
+        ensures { λ r. ⌜ r ≡ acceptedOf self c address ⌝ }
+    {
+        let o = self.operand;
+        let laid = lay(c, address);
+        let bytes = laid.bytes;
+        self.form = c.form;
+        self.trial = c.trial;
+        self.widened = c.widened;
+        Built {
+            refusal: 0,
+            instruction: self,
+            bytes,
+            length: laid.length,
+            dirties: dirties(o),
+        }
+    }
+
+    // The instruction is taken by value and handed back, with its new form, trial mark and widening beside its bytes. A refusal hands it back
+    // unchanged, with zeros.
+    pub fn build(mut self, v: Values, dirty: bool, address: u16) -> Built
+        ensures { λ r. ⌜ r ≡ buildOf self v dirty address ⌝ }
+    {
+        let early = self.early(v);
+        if early != 0 {
+            return refused(self, early);
+        }
+        let c = choose(self, v, dirty, address);
+        if c.refusal != 0 {
+            return refused(self, c.refusal);
+        }
+        self.accept(c, address)
+    }
+}
+
+// Stores the first bytes at the front of a buffer.
+fn store_front(out: &mut [u8], bytes: [u8; 5], length: u8)
+    requires { ⌜ length ≤ 5 ⌝ }
+    ensures { λ _. ⌜ now (out .exit) ≡ put (now (out .entry)) 0 (take length bytes) ⌝ }
+{
+    let end = length as usize;
+    let mut i: usize = 0;
+    while i < end {
+        store(out, i, bytes[i]);
+        i += 1;
+    }
+}
+
+// Builds into the front of a lent buffer: 9 comes last, and leaves the instruction and the buffer as they were.
+pub fn build_into(i: Instruction, v: Values, dirty: bool, address: u16, out: &mut [u8]) -> Placed
+    ensures answer { λ r. ⌜ r ≡ placedOf i (buildOf i v dirty address) (length (now (out .entry))) ⌝ }
+    ensures buffer { λ _. ⌜ now (out .exit) ≡ bufferOf (buildOf i v dirty address) (now (out .entry)) ⌝ }
+{
+    let built = i.build(v, dirty, address);
+    let instruction = built.instruction;
+    let bytes = built.bytes;
+    let length = built.length;
+    if out.len() < length as usize {
+        return Placed {
+            refusal: refusals::NO_ROOM,
+            instruction: i,
+            length: 0,
+            dirties: false,
+        };
+    }
+    store_front(out, bytes, length);
+    Placed {
+        refusal: built.refusal,
+        instruction,
+        length,
+        dirties: built.dirties,
+    }
+}
+
+// What is handed out of a build whose instruction nobody had before.
+fn handed(built: Built) -> Built
+    ensures { λ r. ⌜ r ≡ handed built ⌝ }
+{
+    if built.refusal != 0 {
+        return refused(no_instruction(), built.refusal);
+    }
+    built
+}
+
+// A fresh instruction, made and built from one record.
+pub fn assemble(r: Record, address: u16) -> Built
+    ensures { λ b. ⌜ b ≡ freshOf r address ⌝ }
+{
+    let made = Instruction::make(r);
+    if made.refusal != 0 {
+        return refused(no_instruction(), made.refusal);
+    }
+    let i = made.instruction;
+    let v = r.values;
+    handed(i.build(v, r.dirty, address))
+}
