@@ -1,0 +1,4 @@
+pub mod Operands
+pub mod Choosing
+pub mod Decodes
+pub mod Only

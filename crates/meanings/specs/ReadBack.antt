@@ -1,0 +1,34 @@
+-- What it is for an accepted build to be read back: "decoding the bytes followed by the suffix reads exactly the length and that meaning".
+use mathlib.Core.Path.{_≡_}
+use mathlib.Core.List.{List, _++_}
+use Prim.Native.Nat.{ℕ, _+_, _≤_}
+use lib.ListN.{length}
+use Rattle.decoder.specs.declared.Decoded.{Decoded}
+use Rattle.decoder.specs.Origin.{origin}
+use Rattle.decoder.specs.Front.{frontOf, decodeOf}
+use Rattle.instruction.specs.declared.Values.{Values}
+use Rattle.instruction.specs.declared.Built.{Built}
+use Rattle.instruction.specs.Building.{bytesIn}
+use Rattle.meanings.specs.Means.{meaningOf}
+
+-- the decoder's answer for a build with these values at this address
+abbrev pub readAs : Values → ℕ → Built → Decoded
+readAs v address b = record { refusal = 0; length = b .length; meaning = meaningOf (b .instruction) v address (b .length) }
+
+-- at the front of its bytes, whatever follows them
+abbrev pub ReadsBack : Values → ℕ → Built → Type 0
+ReadsBack v address b = b .refusal ≡ 0 → (t : List ℕ) → frontOf (bytesIn b ++ t) (origin address) ≡ readAs v address b
+
+-- the same of decoding, where no byte lies beyond 65535
+abbrev pub Decodes : Values → ℕ → Built → Type 0
+Decodes v address b =
+    b .refusal ≡ 0 →
+    (t : List ℕ) →
+    address + length (bytesIn b ++ t) ≤ 65536 →
+    decodeOf (bytesIn b ++ t) (origin address) ≡ readAs v address b
+
+-- as many bytes as it says, one to five
+pub record Sized (b : Built) : Type 0 where
+  pub bytes : length (bytesIn b) ≡ b .length
+  pub some : 1 ≤ b .length
+  pub most : b .length ≤ 5
