@@ -1,0 +1,34 @@
+// What capstone says of five bytes at 0100: BYTES LENGTH OPERATION FAULT, as `A684123400 2 36 -`. Capstone has its own choice among aliases. Where
+// FAULT is not a dash it is known to read what the sheet does not, and the decoder must refuse it.
+use crate::lines::is_dash;
+use crate::lines::one;
+use crate::lines::two;
+use ground::refusals::UNDEFINED;
+ghost use Prim.Native.Nat.{_<_};
+
+pub const LINE: usize = 18;
+
+fn byte_of(line: &[u8], at: usize) -> u8
+    requires { ⌜ at < 16 ⌝ }
+{
+    (two(line, at) % 256) as u8
+}
+
+pub fn differs(line: &[u8]) -> bool {
+    let bytes = [
+        byte_of(line, 0),
+        byte_of(line, 2),
+        byte_of(line, 4),
+        byte_of(line, 6),
+        byte_of(line, 8),
+    ];
+    let decoded = decoder::decode(&bytes, 0x0100);
+    let refused = decoded.refusal == UNDEFINED;
+    if is_dash(line, 13) | !is_dash(line, 16) {
+        return !refused;
+    }
+    let meaning = decoded.meaning;
+    let length = decoded.length as u16 == one(line, 11);
+    let operation = rows::merged(byte_of(line, 13));
+    !(length & (meaning.operation == operation))
+}

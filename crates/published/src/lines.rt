@@ -1,0 +1,51 @@
+// Lines of numbers in upper-case hexadecimal.
+use ground::tables::byte;
+ghost use Prim.Native.Nat.{_<_, _≤_};
+
+// The value of a digit, and 16 for every other character.
+fn digit(c: u8) -> u16
+    ensures { λ r. ⌜ r ≤ 16 ⌝ }
+{
+    match c {
+        48..=57 => c as u16 - 48,
+        65..=70 => c as u16 - 55,
+        _ => 16,
+    }
+}
+
+// A number of one digit; 16 where there is none.
+pub fn one(line: &[u8], at: usize) -> u16
+    ensures { λ r. ⌜ r ≤ 16 ⌝ }
+{
+    digit(byte(line, at))
+}
+
+// A number of two digits; 256 where one is none.
+pub fn two(line: &[u8], at: usize) -> u16
+    requires { ⌜ at < 16 ⌝ }
+    ensures { λ r. ⌜ r ≤ 256 ⌝ }
+{
+    let high = one(line, at);
+    let low = one(line, at + 1);
+    if 15 < high {
+        return 256;
+    }
+    if 15 < low {
+        return 256;
+    }
+    high * 16 + low
+}
+
+// A number of four digits, modulo 65536.
+pub fn four(line: &[u8], at: usize) -> u16
+    requires { ⌜ at < 12 ⌝ }
+{
+    let high = two(line, at) as u32;
+    let low = two(line, at + 2) as u32;
+    ((high * 256 + low) % 65536) as u16
+}
+
+// A dash stands for what is not there.
+pub fn is_dash(line: &[u8], at: usize) -> bool {
+    byte(line, at) == b'-'
+}

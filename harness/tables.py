@@ -1,0 +1,94 @@
+"""Writes the published tables that the program `published` compares with the library, to crates/published/data:
+
+  opcodes    the sheet's opcode map, all 3 x 256 codes:           PAGE CODE FORM OPERATION
+  postbytes  the sheet's postbyte table, all 256, as LDA at 0100: POSTBYTE LENGTH KIND REGISTER INDIRECT NUMBER
+             with the bytes 12 34 after the postbyte; the number is an offset, a target, an accumulator, a step or an address
+  capstone   what Debian's capstone 4.0.2 (`cstool m6809`) says:  BYTES LENGTH OPERATION FAULT
+             FAULT is - where it is right, p where it reads a PC postbyte with register bits, x where it reads a transfer of unequal sizes
+
+All numbers but lengths are hexadecimal, those of docs/ROWS.md; - stands for undefined. The first two come from docs/SHEET.md alone.
+"""
+import os
+import random
+import re
+import subprocess
+
+import sheet
+
+OUT = os.path.join(sheet.ROOT, "crates", "published", "data")
+
+
+def opcode_lines():
+    rows = sheet.opcodes()
+    for prefix in (0x00, 0x10, 0x11):
+        for code in range(256):
+            operation, form = rows.get((prefix, code), (None, None))
+            yield f"{prefix:02X} {code:02X} " + ("- --" if operation is None else f"{form} {operation:02X}")
+
+
+def postbyte_lines():
+    rows = sheet.postbytes()
+    for byte in range(256):
+        if byte not in rows:
+            yield f"{byte:02X} - - - - ----"
+            continue
+        extra, kind, register, detail, indirect = rows[byte]
+        number = {0: detail, 1: 0x12, 2: 0x1234}[extra]
+        if kind == sheet.KINDS["pc"]:
+            number += 0x0100 + 2 + extra
+        if kind == sheet.KINDS["address"]:
+            indirect = 0  # the kind itself says so
+        yield f"{byte:02X} {2 + extra} {kind:X} {register} {indirect} {number:04X}"
+
+
+def cstool(bytes_):
+    out = subprocess.run(["cstool", "m6809", bytes_.hex(), "0x100"], capture_output=True, text=True).stdout
+    first = out.split("\n")[0]
+    found = re.match(r"\s*[0-9a-f]+  ((?:[0-9a-f]{2} )+) (\w+)", first)
+    length, name = len(found.group(1).split()), found.group(2).upper()
+    return (0, None) if name == "FCB" else (length, name)
+
+
+def fault(bytes_):
+    """Where capstone is known to read what the sheet, or document 01, does not."""
+    rows = sheet.opcodes()
+    prefixed = bytes_[0] in (0x10, 0x11)
+    operation, form = rows.get((bytes_[0], bytes_[1]) if prefixed else (0, bytes_[0]), (None, None))
+    after = bytes_[2 if prefixed else 1]
+    if form == sheet.FORMS["indexed"] and after & 0x8E == 0x8C and after & 0x60:
+        return "p"
+    if operation in (sheet.OPERATIONS["EXG"], sheet.OPERATIONS["TFR"]) and (after >> 7) != (after >> 3 & 1):
+        return "x"
+    return "-"
+
+
+def sample():
+    for prefix in ("", "10", "11"):
+        for code in range(256):
+            yield bytes.fromhex(prefix) + bytes([code, 0x84, 0x12, 0x34])
+    for postbyte in range(256):
+        yield bytes([0xA6, postbyte, 0x12, 0x34])
+        yield bytes([0x1F, postbyte, 0x12, 0x34])
+    chance = random.Random(6809)
+    for _ in range(2000):
+        yield bytes(chance.randrange(256) for _ in range(5))
+
+
+def capstone_lines():
+    for bytes_ in sample():
+        bytes_ = (bytes_ + bytes(5))[:5]
+        length, name = cstool(bytes_)
+        operation = "--" if name is None else f"{sheet.OPERATIONS[name]:02X}"
+        yield f"{bytes_.hex().upper()} {length} {operation} {fault(bytes_) if name else '-'}"
+
+
+def write(name, lines):
+    os.makedirs(OUT, exist_ok=True)
+    with open(os.path.join(OUT, name), "w") as out:
+        out.writelines(line + "\n" for line in lines)
+
+
+if __name__ == "__main__":
+    write("opcodes", opcode_lines())
+    write("postbytes", postbyte_lines())
+    write("capstone", capstone_lines())
