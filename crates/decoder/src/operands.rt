@@ -9,6 +9,8 @@ use postbytes::Pair;
 use postbytes::Shape;
 use postbytes::lists::pair_of;
 use postbytes::lists::registers_of;
+use postbytes::numbers::S;
+use postbytes::numbers::U;
 use postbytes::shapes::extra_of;
 use postbytes::shapes::fill;
 use postbytes::shapes::shape_of;
@@ -20,11 +22,6 @@ ghost use Rattle.postbytes.specs.ListsRead.{pairOf};
 ghost use Rattle.decoder.specs.Origin.{shifted, targetOf, directOf};
 ghost use Rattle.decoder.specs.Meaning.{reading, unread};
 ghost use Rattle.decoder.specs.Operands.{numberOf, distanceOf, numberedOf, numberedAt, resolved, indexedAt, ownOf, pairedAs, registersAt, operandOf};
-
-// The stack pointers.
-const U: u8 = 5;
-
-const S: u8 = 6;
 
 // Operations with a list of registers: EXG and TFR, then PSHS, PULS, PSHU and PULU.
 const EXG: u8 = 136;

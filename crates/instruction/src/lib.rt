@@ -14,6 +14,7 @@ use ground::buffers::store;
 use ground::refusals;
 use names::*;
 use postbytes::Index;
+use postbytes::numbers::DP;
 use records::is_lawful;
 use records::is_recognised;
 use records::is_sound;

@@ -1,4 +1,4 @@
-// Parser modes, rows of register lists, and registers, by number (docs/ROWS.md).
+// Parser modes, and rows of register lists, by number (docs/ROWS.md).
 pub const MODE_REGISTER: u8 = 0;
 
 pub const MODE_OFFSET: u8 = 1;
@@ -24,13 +24,3 @@ pub const PSHS: u8 = 138;
 pub const PULS: u8 = 139;
 
 pub const PULU: u8 = 141;
-
-pub const X: u8 = 3;
-
-pub const U: u8 = 5;
-
-pub const S: u8 = 6;
-
-pub const PC: u8 = 7;
-
-pub const DP: u8 = 9;

@@ -7,6 +7,7 @@ use instruction::Instruction;
 use instruction::Operand;
 use instruction::Values;
 use instruction::names::*;
+use postbytes::numbers::PC;
 use rows::forms::*;
 ghost use mathlib.Core.Path.{_≡_};
 ghost use Rattle.meanings.specs.Means.{offsetIn, offsetKind, indexKind, listKind, kindOf, operationOf, meaningOf};

@@ -4,7 +4,7 @@ use values::Value;
 
 pub mod encoding;
 pub mod lists;
-mod numbers;
+pub mod numbers;
 pub mod shapes;
 
 // An indexed operand to be written. Its numbers and values are a caller's and may be wrong.

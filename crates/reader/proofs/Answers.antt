@@ -11,6 +11,7 @@ use lib.ListN.{length}
 use Rattle.ground.specs.Stores.{put}
 use Rattle.ground.specs.Refusals.{noRoom}
 use Rattle.ground.proofs.Choices.{pick-true, pick-false}
+use Rattle.ground.proofs.Tests.{neither-left, neither-right}
 use Rattle.ground.proofs.Stores.{put-front}
 use Rattle.records.specs.Text.{Rec}
 use Rattle.records.specs.Runs.{runsOf}
@@ -22,8 +23,7 @@ use Rattle.reader.proofs.Joins.{bytes-runs}
 use Rattle.reader.proofs.Tallies.{rows-all, fine-size}
 
 pub either-false : (a b : Bool) → (a || b) ≡ false → (a ≡ false) × (b ≡ false)
-either-false true b e = absurd (false≢true (sym e))
-either-false false b e = (refl, e)
+either-false a b e = (neither-left a b e, neither-right a b e)
 
 rows-length : (rs : List Rec) → length (rowsOf rs) ≡ 2 * length rs
 rows-length [] = refl

@@ -16,6 +16,8 @@ use Rattle.records.specs.Hex.{hexOf, hexes}
 use Rattle.records.specs.Line.{sum, checkOf, body, line}
 use Rattle.records.specs.Text.{Rec, text}
 use Rattle.records.specs.Fine.{Each, Bytes}
+use Rattle.records.proofs.Writing.{length-hexes}
+use Rattle.records.proofs.Fine.{bytes-append}
 use Rattle.reader.specs.Digits.{digitOf, pairOf, bytesIn, behind}
 use Rattle.reader.specs.Lines.{countOf, addressOf, typeOf, dataOf, sound, endsLine, afterEnd, Front, Record, EndRecord, NoRecord, recordOf, lineIn, Good, more, found, recordsIn}
 use Rattle.reader.proofs.Records.{records-on}
@@ -32,10 +34,6 @@ pair-back b h =
     (digit-back (b / 16) (omega arith), digit-back (b % 16) (omega arith), lt-ltb (b / 16) 16 (omega arith), lt-ltb (b % 16) 16 (omega arith))
     (omega arith)
 
-bytes-append : (xs ys : List ℕ) → Bytes xs → Bytes ys → Bytes (xs ++ ys)
-bytes-append [] ys v w = w
-bytes-append (x ∷ xs) ys v w = (v .0, bytes-append xs ys (v .1) w)
-
 bytes-back : (bs r : List ℕ) → Bytes bs → bytesIn (hexes bs ++ r) ≡ bs ++ bytesIn r
 unfolding pick
 bytes-back [] r w = refl
@@ -46,10 +44,6 @@ feed-none : (r : List ℕ) → bytesIn (10 ∷ r) ≡ []
 unfolding pairOf digitOf pick
 feed-none [] = refl
 feed-none (x ∷ r) = refl
-
-length-hexes : (bs : List ℕ) → length (hexes bs) ≡ 2 * length bs
-length-hexes [] = refl
-length-hexes (b ∷ bs) = omega (arith, length-hexes bs)
 
 -- the digits of a line, up to its line feed
 module _ (bs r : List ℕ) (w : Bytes bs) where

@@ -2,7 +2,7 @@
 -- Assumes nothing.
 use borrow.Author.Tests.{le-leb, lt-leb, lt-ltb, le-ltb, ltb-true, ltb-false}
 use mathlib.Core.Path.{_≡_, refl, sym, ap, _∙_}
-use mathlib.Core.Bool.{Bool, true, false, _&&_, and-false, false≢true}
+use mathlib.Core.Bool.{Bool, true, false, _&&_, and-false}
 use mathlib.Core.List.{List, [], _∷_}
 use Prim.Native.Nat.{ℕ, zero, suc, _+_, _-_, _*_, _%_, _≤_, _<_}
 use native.Mathlib.Nat.{add-zero, not-suc-le-zero}
@@ -13,13 +13,13 @@ use lib.ListN.{length, getD, take, drop, length-drop}
 use lib.Seq.{getD-drop, drop-drop}
 use Rattle.ground.specs.Choice.{pick}
 use Rattle.ground.proofs.Choices.{pick-true, pick-false}
+use Rattle.ground.proofs.Tests.{both-first, both-second}
 use Rattle.records.specs.Line.{sum}
 use Rattle.reader.specs.Digits.{digitOf, pairOf, bytesIn}
 use Rattle.reader.specs.Steps.{pairAt}
 
 pub both-true : (a b : Bool) → (a && b) ≡ true → (a ≡ true) × (b ≡ true)
-both-true true b e = (refl, e)
-both-true false b e = absurd (false≢true e)
+both-true a b e = (both-first a b e, both-second a b e)
 
 module _ (a b c : ℕ) where
   pub inside : a ≤ c → c ≤ b → (leb a c && leb c b) ≡ true

@@ -1,7 +1,7 @@
 -- Every record of objects that are not refused is fine: 1 to 32 bytes, none beyond 65535.
 -- Assumes nothing.
 use mathlib.Core.Path.{_≡_, refl}
-use mathlib.Core.Bool.{Bool, true, false, _&&_, _||_, not, false≢true}
+use mathlib.Core.Bool.{Bool, true, false, _&&_, _||_, not}
 use mathlib.Core.Logic.{_⊎_, inl, inr, ⊎-elim}
 use mathlib.Core.List.{List, [], _∷_, _++_, map}
 use Prim.Native.Nat.{ℕ, zero, suc, _+_, _-_, _*_, _/_, _≤_, _<_}
@@ -13,9 +13,9 @@ use Rattle.ground.proofs.Choices.{by-test, by-pick}
 use Rattle.records.specs.Objects.{Object, With, Without, bytesOf, dataOf, countOf, objectOf, objectsOf, fits, badValues, badObjects, faulty, tooFar}
 use Rattle.records.specs.Text.{Rec, Event, Byte, events, close, recsFrom, recs}
 use Rattle.records.specs.Fine.{Each, Bytes, Fine, Sound}
-use Rattle.ground.proofs.Tests.{neither-left, neither-right}
+use Rattle.ground.proofs.Tests.{both-second, neither-left, neither-right}
 
-bytes-append : (bs cs : List ℕ) → Bytes bs → Bytes cs → Bytes (bs ++ cs)
+pub bytes-append : (bs cs : List ℕ) → Bytes bs → Bytes cs → Bytes (bs ++ cs)
 bytes-append [] cs v w = w
 bytes-append (b ∷ bs) cs v w = (v .0, bytes-append bs cs (v .1) w)
 
@@ -65,14 +65,10 @@ unfolding recs
 recs-fine os s t = fine-from os s t 0 [] (record { open-yet = omega arith; bytes = tt; near = omega arith })
 
 -- a value that fits its width is made of bytes
-both-right : (a b : Bool) → (a && b) ≡ true → b ≡ true
-both-right true b e = e
-both-right false b e = absurd (false≢true e)
-
 either : (a b c d : Bool) → ((a && b) || (c && d)) ≡ true → (b ≡ true) ⊎ (d ≡ true)
 either true true c d e = inl refl
-either true false c d e = inr (both-right c d e)
-either false b c d e = inr (both-right c d e)
+either true false c d e = inr (both-second c d e)
+either false b c d e = inr (both-second c d e)
 
 value-sound : (number width : ℕ) → fits number width ≡ true → Bytes (bytesOf number width)
 unfolding fits bytesOf
