@@ -20,7 +20,8 @@ use Rattle.reader.specs.Answers.{tooFar}
 use Rattle.reader.specs.Ahead.{goesOn, followIn, handedRun, begun, runOf, bytesBegun, runBytes}
 use Rattle.reader.proofs.Digits.{both-true}
 use Rattle.reader.proofs.Records.{records-on}
-use Rattle.reader.proofs.Joins.{after, glue, after-glue, join-on, join-off}
+use Rattle.records.proofs.Joins.{after, glue, after-glue, join-on}
+use Rattle.reader.proofs.Joins.{join-off}
 use Rattle.reader.proofs.Stretches.{follow-on}
 use Rattle.reader.proofs.Answers.{either-false}
 

@@ -20,7 +20,7 @@ use Rattle.reader.specs.Ahead.{Ahead, goesOn, follow, followIn, refusedR
 use Rattle.reader.specs.Steps.{ranBytes}
 use Rattle.reader.specs.declared.Read.{Read}
 use Rattle.reader.specs.declared.runs.Run.{Run}
-use Rattle.reader.proofs.Joins.{after, glue}
+use Rattle.records.proofs.Joins.{after, glue}
 use Rattle.reader.proofs.Stretches.{follow-on, run-past}
 
 -- a run stays at its address

@@ -24,7 +24,7 @@ use Rattle.reader.specs.declared.Line.{Line}
 use Rattle.reader.specs.declared.Line.the-variants.{Data, End, Broken}
 use Rattle.reader.proofs.Records.{Shorter, line-short}
 use Rattle.reader.proofs.Tallies.{one, size-here, fits-here}
-use Rattle.reader.proofs.Joins.{after, glue}
+use Rattle.records.proofs.Joins.{after, glue}
 
 same-going : (n : ℕ) (p : Rec) (s : List ℕ) (f : Front) (x y : Rec → List ℕ → Ahead) → Shorter n f
     → ((q : Rec) (t : List ℕ) → length t < n → x q t ≡ y q t) → goesOn p s f x ≡ goesOn p s f y

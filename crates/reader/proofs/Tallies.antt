@@ -25,7 +25,8 @@ use Rattle.reader.specs.declared.Tally.{Tally}
 use Rattle.reader.specs.declared.Line.{Line}
 use Rattle.reader.specs.declared.Line.the-variants.{Data, End, Broken}
 use Rattle.reader.proofs.Records.{records-on}
-use Rattle.reader.proofs.Joins.{after, begun, runs-begun, bytes-runs, rowsFrom, rows-from}
+use Rattle.records.proofs.Joins.{after}
+use Rattle.reader.proofs.Joins.{begun, runs-begun, bytes-runs, rowsFrom, rows-from}
 
 -- a walk stands within the text, and what it counted lies behind it
 pub record Walked (s : List ℕ) (at : ℕ) (t : Tally) : Type 0 where

@@ -1,20 +1,19 @@
 -- Records say the same runs as the objects they come from: an object without bytes may break a record, never a run.
 -- Assumes nothing.
 use mathlib.Core.Path.{_≡_, refl, sym, ap, _∙_}
-use mathlib.Core.Bool.{Bool, true, false}
-use mathlib.Core.List.{List, [], _∷_, _++_, map, append-assoc, append-nil}
+use mathlib.Core.List.{List, [], _∷_, _++_, map, append-nil}
 use Prim.Native.Nat.{ℕ, _+_}
 use native.Mathlib.Nat.{add-zero}
 use native.Mathlib.Omega.{arith}
-use borrow.Author.Tests.{eqb-true, eq-eqb}
+use borrow.Author.Tests.{eqb-true}
 use lib.Dec.{eqb}
 use lib.ListN.{length, length-append}
 use lib.Seq.{append-snoc}
-use Rattle.ground.specs.Choice.{pick}
-use Rattle.ground.proofs.Choices.{pick-true, by-test}
+use Rattle.ground.proofs.Choices.{by-test}
 use Rattle.records.specs.Objects.{Object, With, Without}
 use Rattle.records.specs.Text.{Rec, Event, Byte, events, close, recsFrom, recs}
 use Rattle.records.specs.Runs.{join, runsOf, pieces}
+use Rattle.records.proofs.Joins.{join-on}
 
 -- bytes at an address before runs: none are no piece
 abbrev before : ℕ → List ℕ → List Rec → List Rec
@@ -25,29 +24,12 @@ runs-close : (a : ℕ) (p : List ℕ) (rs : List Rec) → runsOf (close a p rs) 
 runs-close a [] rs = refl
 runs-close a (b ∷ bs) rs = refl
 
--- two pieces that follow on are one, whatever comes after
-follow-on :
-    (t : Bool) (a : ℕ) (p q : List ℕ) (r : Rec) (rs : List Rec) →
-    join (record { address = a; bytes = p })
-    (pick t (record { address = a + length p; bytes = q ++ r .bytes } ∷ rs) (record { address = a + length p; bytes = q } ∷ r ∷ rs))
-    ≡ pick t (record { address = a; bytes = p ++ q ++ r .bytes } ∷ rs) (record { address = a; bytes = p ++ q } ∷ r ∷ rs)
-unfolding pick
-follow-on true a p q r rs = rw (eq-eqb (a + length p) (a + length p) refl, append-assoc p q (r .bytes))
-follow-on false a p q r rs = rw (eq-eqb (a + length p) (a + length p) refl)
-
-join-twice :
-    (a : ℕ) (p q : List ℕ) (rs : List Rec) →
-    join (record { address = a; bytes = p }) (join (record { address = a + length p; bytes = q }) rs)
-    ≡ join (record { address = a; bytes = p ++ q }) rs
-join-twice a p q [] = pick-true _ _ (eq-eqb (a + length p) (a + length p) refl)
-join-twice a p q (r ∷ rs) =
-    let e : a + length (p ++ q) ≡ a + length p + length q = omega (arith, length-append p q) in
-    rw e (follow-on (eqb (r .address) (a + length p + length q)) a p q r rs)
-
+-- two pieces that follow on are one piece
 before-twice : (a : ℕ) (p q : List ℕ) (rs : List Rec) → before a p (before (a + length p) q rs) ≡ before a (p ++ q) rs
 before-twice a [] q rs = ap (λ (n : ℕ). before n q rs) (add-zero a)
 before-twice a (b ∷ bs) [] rs = ap (λ (l : List ℕ). before a (b ∷ l) rs) (sym (append-nil bs))
-before-twice a (b ∷ bs) (c ∷ cs) rs = join-twice a (b ∷ bs) (c ∷ cs) rs
+before-twice a (b ∷ bs) (c ∷ cs) rs =
+    join-on (record { address = a; bytes = b ∷ bs }) (record { address = a + length (b ∷ bs); bytes = c ∷ cs }) rs refl
 
 -- the bytes of an object go to the present record and to those after it: one run with it all the same
 bytes-run :

@@ -7,7 +7,7 @@ use native.Mathlib.Omega.{arith}
 use lib.ListN.{length}
 use Rattle.records.specs.Text.{Rec}
 use Rattle.reader.proofs.Stretches.{Going, going-first, stops-end, stops-broken, stops-off, goes-on}
-use Rattle.reader.proofs.Joins.{after}
+use Rattle.records.proofs.Joins.{after}
 use Rattle.reader.proofs.Tallies.{fits-here}
 use Rattle.reader.proofs.runs.follow_on.Statement.{statement}
 use Rattle.reader.proofs.runs.follow_on.Tie as tie
