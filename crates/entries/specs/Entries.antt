@@ -1,0 +1,88 @@
+-- An operand record in a row of numbers (docs/ROWS.md): 15 of the operand, then page dirty, values given, and the two values. What lies past a row's end is 0.
+use Prim.Native.Nat.{ℕ, _+_}
+use mathlib.Core.Bool.{Bool, _&&_}
+use mathlib.Core.List.{List, [], _∷_}
+use lib.Dec.{eqb, ltb, leb}
+use lib.ListN.{getD}
+use Rattle.ground.specs.Choice.{pick}
+use Rattle.values.specs.declared.Value.{Value}
+use Rattle.instruction.specs.declared.Operand.{Operand}
+use Rattle.instruction.specs.declared.Values.{Values}
+use Rattle.instruction.specs.declared.Record.{Record}
+
+-- a number of 8 bits that is unknown as an operation, a mode, a register, a step and a width, and "over 8 registers" as a count
+abbrev pub nowhere : ℕ
+nowhere = 255
+
+-- ---- a cell
+-- a number of 8 bits in a cell of 16; one that does not fit is unknown
+unfoldable pub byteIn : List ℕ → ℕ → ℕ
+byteIn row at = pick (ltb (getD row at 0) 256) (getD row at 0) nowhere
+
+-- a cell that is a flag holds 0 or 1, and 1 is set
+unfoldable pub isFlag : List ℕ → ℕ → Bool
+isFlag row at = leb (getD row at 0) 1
+
+unfoldable pub flagIn : List ℕ → ℕ → Bool
+flagIn row at = eqb (getD row at 0) 1
+
+-- ---- the operand
+-- each of its flags is one: indirect, forced, widening allowed
+unfoldable pub flaggedIn : List ℕ → Bool
+flaggedIn row = isFlag row 2 && (isFlag row 3 && isFlag row 5)
+
+unfoldable pub registersIn : List ℕ → List ℕ
+registersIn row =
+    byteIn row 7
+    ∷ byteIn row 8
+    ∷ byteIn row 9
+    ∷ byteIn row 10
+    ∷ byteIn row 11
+    ∷ byteIn row 12
+    ∷ byteIn row 13
+    ∷ byteIn row 14
+    ∷ []
+
+unfoldable pub operandOf : List ℕ → Operand
+operandOf row = record {
+  operation = byteIn row 0;
+  mode = byteIn row 1;
+  indirect = flagIn row 2;
+  forced = flagIn row 3;
+  registers = registersIn row;
+  count = byteIn row 6;
+  step = byteIn row 4;
+  widening = flagIn row 5;
+}
+
+-- ---- the record
+-- a number and its width
+unfoldable pub valueIn : List ℕ → ℕ → Value
+valueIn row at = record { number = getD row at 0; width = byteIn row (at + 1) }
+
+unfoldable pub valuesIn : List ℕ → Values
+valuesIn row = record { given = flagIn row 16; unsigned = valueIn row 17; signed = valueIn row 19 }
+
+-- page dirty and values given are flags too
+unfoldable pub allFlagged : List ℕ → Bool
+allFlagged row = flaggedIn row && (isFlag row 15 && isFlag row 16)
+
+-- an operand of no known operation
+abbrev pub unknownAs : Operand → Operand
+unknownAs o = record {
+  operation = nowhere;
+  mode = o .mode;
+  indirect = o .indirect;
+  forced = o .forced;
+  registers = o .registers;
+  count = o .count;
+  step = o .step;
+  widening = o .widening;
+}
+
+-- "field number unknown": a record with a flag that is neither 0 nor 1 is one of no known operation
+unfoldable pub toldIn : List ℕ → Operand
+toldIn row = pick (allFlagged row) (operandOf row) (unknownAs (operandOf row))
+
+unfoldable pub entryOf : List ℕ → Record
+entryOf row = record { operand = toldIn row; dirty = flagIn row 15; values = valuesIn row }
