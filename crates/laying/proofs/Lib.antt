@@ -1,0 +1,9 @@
+pub mod Builds
+pub mod Outcomes
+pub mod Exactly
+pub mod Parts
+pub mod Decodes
+pub mod Turns
+pub mod Answers
+pub mod Cases
+pub mod Only

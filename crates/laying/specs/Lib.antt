@@ -1,0 +1,4 @@
+pub mod Entries
+pub mod Laying
+pub mod Exactly
+pub mod Meant
