@@ -3,6 +3,7 @@ use entries::entry_of;
 use ground::buffers::store;
 use ground::refusals;
 use instruction::Built;
+use instruction::Record;
 use instruction::assemble;
 ghost use mathlib.Core.Path.{_≡_};
 ghost use Prim.Native.Nat.{_+_, _<_, _≤_, _^_};
@@ -35,12 +36,20 @@ fn refused(n: u8) -> Laid
     }
 }
 
+// The record of the row that begins at a place.
+fn entry_at(list: &[u16], row: usize) -> Record
+    requires { ⌜ row ≤ length (now list) ⌝ }
+    ensures { λ r. ⌜ r ≡ entryAt (now (list .entry)) row ⌝ }
+{
+    entry_of(&list[row..])
+}
+
 // A fresh build of the row's instruction. What stands at 65536 is built as at 0.
 fn built_at(list: &[u16], row: usize, at: usize) -> Built
     requires { ⌜ row ≤ length (now list) ⌝ }
     ensures { λ r. ⌜ r ≡ builtAt (entryAt (now (list .entry)) row) at ⌝ }
 {
-    let entry = entry_of(&list[row..]);
+    let entry = entry_at(list, row);
     assemble(entry, (at % END) as u16)
 }
 
