@@ -1,0 +1,79 @@
+-- How long the rows of a statement's values are: two numbers to a value.
+-- Assumes nothing.
+use mathlib.Core.Path.{_≡_, refl, sym, ap, _∙_}
+use mathlib.Core.Bool.{Bool}
+use mathlib.Core.List.{List, [], _∷_}
+use Prim.Native.Nat.{ℕ, zero, suc, _+_, _*_, _≤_, min}
+use native.Mathlib.Nat.{min-eq-left, min-eq-right}
+use native.Mathlib.Omega.{arith}
+use lib.Dec.{leb}
+use lib.ListN.{length}
+use lib.Seq.{set-out}
+use borrow.Author.Tests.{leb-true, leb-false}
+use Rattle.ground.specs.Stores.{put}
+use Rattle.ground.proofs.Choices.{by-test}
+use Rattle.expressions.specs.declared.Answer.{Answer}
+use Rattle.instruction.specs.Building.{bytesIn}
+use Rattle.statements.specs.declared.Statement.{Statement}
+use Rattle.statements.specs.declared.Statement.the-variants.{Label, Instruction, Rmb, Fcb, Fdb, Fcc, Org, Unknown}
+use Rattle.statements.specs.declared.Entry.{Entry}
+use Rattle.statements.specs.declared.Datum.{Datum}
+use Rattle.statements.specs.declared.Datum.the-variants.{Byte, Word, Character}
+use Rattle.statements.specs.Listing.{statementAt, entryAt}
+use Rattle.statements.specs.Asking.{askedOf, answersFrom, rowsIn}
+use Rattle.statements.specs.Effects.{builtOf}
+use Rattle.statements.specs.Objects.{byteRows, valuesOf, valuesAt, countIn}
+
+pub answers-length : (kind : Datum) (items ns ls : List ℕ) (here first n : ℕ) → length (answersFrom kind items ns ls here first n) ≡ n
+unfolding answersFrom
+answers-length kind items ns ls here first zero = refl
+answers-length kind items ns ls here first (suc n) = ap suc (answers-length kind items ns ls here (first + 1) n)
+
+rows-length : (answers : List Answer) → length (rowsIn answers) ≡ 2 * length answers
+rows-length [] = refl
+rows-length (a ∷ more) = let e = rows-length more in omega arith
+
+byte-rows-length : (bytes : List ℕ) → length (byteRows bytes) ≡ 2 * length bytes
+byte-rows-length [] = refl
+byte-rows-length (b ∷ more) = let e = byte-rows-length more in omega arith
+
+-- as many values as there are items
+pub data-count : (kind : Datum) (items ns ls : List ℕ) (here first n : ℕ) → n ≡ countIn (rowsIn (answersFrom kind items ns ls here first n))
+data-count kind items ns ls here first n =
+    omega (arith, rows-length (answersFrom kind items ns ls here first n), answers-length kind items ns ls here first n)
+
+-- as many as there are bytes
+pub byte-count : (bytes : List ℕ) → length bytes ≡ countIn (byteRows bytes)
+byte-count bytes = omega (arith, byte-rows-length bytes)
+
+values-even : (s : Statement) (e : Entry) (items ns ls : List ℕ) (here : ℕ) (dirty : Bool) →
+    length (valuesOf s e items ns ls here dirty) ≡ 2 * countIn (valuesOf s e items ns ls here dirty)
+values-even Label e items ns ls here dirty = refl
+values-even (Instruction node) e items ns ls here dirty =
+    omega (arith, byte-rows-length (bytesIn (builtOf e (askedOf ns ls node here) dirty here)))
+values-even (Rmb node) e items ns ls here dirty = refl
+values-even (Fcb first n) e items ns ls here dirty = omega (arith, rows-length (answersFrom Byte items ns ls here first n))
+values-even (Fdb first n) e items ns ls here dirty = omega (arith, rows-length (answersFrom Word items ns ls here first n))
+values-even (Fcc first n) e items ns ls here dirty = omega (arith, rows-length (answersFrom Character items ns ls here first n))
+values-even (Org node) e items ns ls here dirty = refl
+values-even Unknown e items ns ls here dirty = refl
+
+-- a row of two for each value
+pub values-length : (list items ns ls : List ℕ) (i here : ℕ) (dirty : Bool) →
+    length (valuesAt list items ns ls i here dirty) ≡ 2 * countIn (valuesAt list items ns ls i here dirty)
+unfolding valuesAt
+values-length list items ns ls i here dirty = values-even (statementAt list i) (entryAt list i) items ns ls here dirty
+
+-- ---- storing past the end
+put-out : (d : List ℕ) (at : ℕ) (xs : List ℕ) → length d ≤ at → put d at xs ≡ d
+put-out d at [] h = refl
+put-out d at (x ∷ xs) h = rw (set-out d at x h) (put-out d (at + 1) xs (omega arith))
+
+-- stores nothing, wherever past the end it is
+pub put-within : (d : List ℕ) (at : ℕ) (xs : List ℕ) → put d (min at (length d)) xs ≡ put d at xs
+put-within d at xs =
+    by-test (λ (_ : ℕ). put d (min at (length d)) xs ≡ put d at xs) (leb at (length d)) {a = at} {b = at}
+    (λ e. ap (λ (k : ℕ). put d k xs) (min-eq-left (leb-true at (length d) e)))
+    (λ e.
+    let h : length d ≤ at = omega (arith, leb-false at (length d) e) in
+    ap (λ (k : ℕ). put d k xs) (min-eq-right h) ∙ put-out d (length d) xs (omega arith) ∙ sym (put-out d at xs h))

@@ -1,0 +1,11 @@
+pub mod Turns
+pub mod Built
+pub mod Lengths
+pub mod Alone
+pub mod Firsts
+pub mod Answered
+pub mod Told
+pub mod Small
+pub mod Sizes
+pub mod Cases
+pub mod Only

@@ -1,0 +1,44 @@
+-- `statements::listing::statement` meets its contract.
+-- Assumes nothing.
+use borrow.Author.Tests.{ne-eqb}
+use Rattle.ground.specs.Choice.{pick}
+use Rattle.statements.specs.Listing.{statementOf}
+use Rattle.statements.proofs.listing.statement.Statement.{statement}
+use Rattle.statements.proofs.listing.statement.Tie as tie
+
+returns : tie.Need-returns
+unfolding statementOf pick
+returns c = rw (c .match .keys1)
+
+returns-2 : tie.Need-returns-2
+unfolding statementOf pick
+returns-2 c = rw (c .match .keys2)
+
+returns-3 : tie.Need-returns-3
+unfolding statementOf pick
+returns-3 c = rw (c .match .keys3)
+
+returns-4 : tie.Need-returns-4
+unfolding statementOf pick
+returns-4 c = rw (c .match .keys4)
+
+returns-5 : tie.Need-returns-5
+unfolding statementOf pick
+returns-5 c = rw (c .match .keys5)
+
+returns-6 : tie.Need-returns-6
+unfolding statementOf pick
+returns-6 c = rw (c .match .keys6)
+
+returns-7 : tie.Need-returns-7
+unfolding statementOf pick
+returns-7 c = rw (c .match .keys7)
+
+returns-8 : tie.Need-returns-8
+unfolding statementOf pick
+returns-8 c = let r = c .match .rest in rw (ne-eqb _ _ (r .0 .0 .0 .0 .0 .0 .1), ne-eqb _ _ (r .0 .0 .0 .0 .0 .1), ne-eqb _ _ (r .0 .0 .0 .0 .1), ne-eqb _ _ (r .0 .0 .0 .1), ne-eqb _ _ (r .0 .0 .1), ne-eqb _ _ (r .0 .1), ne-eqb _ _ (r .1))
+
+pub statement-spec : {M : Type 1} → statement M
+statement-spec =
+    tie.close
+    (tie.spec returns returns-2 returns-3 returns-4 returns-5 returns-6 returns-7 returns-8)

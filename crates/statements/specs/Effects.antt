@@ -1,0 +1,101 @@
+-- What a statement does at an address (01, "Passes"): its refusal, what it counts, where it moves to, and whether it dirties the page.
+use Prim.Native.Nat.{ℕ, _+_, _*_}
+use mathlib.Core.Bool.{Bool, true, false}
+use mathlib.Core.List.{List}
+use lib.Dec.{eqb, leb}
+use Rattle.ground.specs.Choice.{pick}
+use Rattle.ground.specs.Refusals.{unknown, badLabel, beyond}
+use Rattle.rows.specs.Sizes.{smallestSizeOf}
+use Rattle.expressions.specs.declared.Answer.{Answer}
+use Rattle.instruction.specs.declared.Record.{Record}
+use Rattle.instruction.specs.declared.Built.{Built}
+use Rattle.instruction.specs.Building.{operandRefusal, freshOf}
+use Rattle.statements.specs.declared.Statement.{Statement}
+use Rattle.statements.specs.declared.Statement.the-variants.{Label, Instruction, Rmb, Fcb, Fdb, Fcc, Org, Unknown}
+use Rattle.statements.specs.declared.Entry.{Entry}
+use Rattle.statements.specs.declared.Asked.{Asked}
+use Rattle.statements.specs.declared.Datum.{Datum}
+use Rattle.statements.specs.declared.Datum.the-variants.{Byte, Word, Character}
+use Rattle.statements.specs.declared.Effect.{Effect}
+use Rattle.statements.specs.Order.{earlier, earliest}
+use Rattle.statements.specs.Listing.{statementAt, entryAt}
+use Rattle.statements.specs.Asking.{askedOf, wantedOf, answersFrom, refusalsIn}
+
+-- a refusal, 0 for none, and what the statement counts: it moves nothing, and "no refused one dirties"
+abbrev pub counts : ℕ → ℕ → Effect
+counts why size = record { refusal = why; size = size; moves = false; to = 0; dirties = false }
+
+-- the refusal of a statement's own label: "defined twice, or above 511"
+unfoldable pub ownLabel : Bool → ℕ
+ownLabel ill = pick ill badLabel 0
+
+-- ---- an instruction
+-- 1 and 2, which are told before any value is evaluated; a flag that is neither 0 nor 1 is a "field number unknown"
+unfoldable pub entryRefusal : Entry → ℕ
+entryRefusal e = pick (e .flagged) (operandRefusal (e .operand)) unknown
+
+-- the operand record: the page flag is the pass's
+abbrev pub recordOf : Entry → Asked → Bool → Record
+recordOf e a dirty = record { operand = e .operand; dirty = dirty; values = a .values }
+
+-- "fresh instructions"
+unfoldable pub builtOf : Entry → Asked → Bool → ℕ → Built
+builtOf e a dirty here = freshOf (recordOf e a dirty) here
+
+-- "1, 2, 11, 10, 3, .. 7, 6, 5, 4, 8"
+unfoldable pub instructionRefusal : Entry → Asked → Bool → Built → ℕ
+instructionRefusal e a ill b =
+    pick (eqb (entryRefusal e) 0)
+    (pick (eqb (earlier (a .refusal) (ownLabel ill)) 0) (b .refusal) (earlier (a .refusal) (ownLabel ill)))
+    (entryRefusal e)
+
+-- an accepted one counts its length; "A refused instruction counts its row's smallest size", and "no row .. none"
+unfoldable pub instructionEffect : Entry → ℕ → Built → Effect
+instructionEffect e why b =
+    pick (eqb why 0)
+    (record { refusal = 0; size = b .length; moves = false; to = 0; dirties = b .dirties })
+    (counts why (smallestSizeOf (e .operand .operation)))
+
+-- ---- RMB and ORG
+unfoldable pub numberRefusal : Answer → Bool → ℕ
+numberRefusal a ill = earlier (a .refusal) (ownLabel ill)
+
+-- RMB counts its number; "a refused RMB" counts "none"
+unfoldable pub reservedEffect : Answer → ℕ → Effect
+reservedEffect a why = pick (eqb why 0) (counts 0 (a .value .number)) (counts why 0)
+
+-- "ORG .. moves the running address to its operand"; "a refused ORG moves nothing"
+unfoldable pub originEffect : Answer → ℕ → Effect
+originEffect a why =
+    pick (eqb why 0) (record { refusal = 0; size = 0; moves = true; to = a .value .number; dirties = false }) (counts why 0)
+
+-- ---- FCB, FDB, FCC
+unfoldable pub dataRefusal : List Answer → Bool → ℕ
+dataRefusal answers ill = earlier (ownLabel ill) (earliest (refusalsIn answers))
+
+-- ---- every statement
+-- "refused FCB, FDB, FCC [count] their full length", so they count it either way. In an ORG's operand "the location counts as 0".
+abbrev pub effectOf : Statement → Entry → List ℕ → List ℕ → List ℕ → ℕ → Bool → Bool → Effect
+effectOf Label e items ns ls here dirty ill = counts (ownLabel ill) 0
+effectOf (Instruction node) e items ns ls here dirty ill =
+    instructionEffect e
+    (instructionRefusal e (askedOf ns ls node here) ill (builtOf e (askedOf ns ls node here) dirty here))
+    (builtOf e (askedOf ns ls node here) dirty here)
+effectOf (Rmb node) e items ns ls here dirty ill =
+    reservedEffect (wantedOf ns ls node here) (numberRefusal (wantedOf ns ls node here) ill)
+effectOf (Fcb first count) e items ns ls here dirty ill = counts (dataRefusal (answersFrom Byte items ns ls here first count) ill) count
+effectOf (Fdb first count) e items ns ls here dirty ill = counts (dataRefusal (answersFrom Word items ns ls here first count) ill) (2 * count)
+effectOf (Fcc first count) e items ns ls here dirty ill =
+    counts (dataRefusal (answersFrom Character items ns ls here first count) ill) count
+effectOf (Org node) e items ns ls here dirty ill =
+    originEffect (wantedOf ns ls node 0) (numberRefusal (wantedOf ns ls node 0) ill)
+effectOf Unknown e items ns ls here dirty ill = counts unknown 0
+
+-- statement i of a list, with its items, nodes and labels: at the address `here`, the page dirty or clean, its own label ill or not
+unfoldable pub effectAt : List ℕ → List ℕ → List ℕ → List ℕ → ℕ → ℕ → Bool → Bool → Effect
+effectAt list items ns ls i here dirty ill = effectOf (statementAt list i) (entryAt list i) items ns ls here dirty ill
+
+-- at a running address from 0 to 65536: what would end beyond 65536 is 18 if it is accepted, and counts none either way; RMB too
+unfoldable pub countedOf : ℕ → Effect → Effect
+countedOf at e =
+    pick (leb (at + e .size) 65536) e (counts (pick (eqb (e .refusal) 0) beyond (e .refusal)) 0)

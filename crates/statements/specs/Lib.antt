@@ -1,0 +1,6 @@
+pub mod Order
+pub mod Listing
+pub mod Asking
+pub mod Effects
+pub mod Objects
+pub mod Lone

@@ -1,0 +1,50 @@
+// Statements: a row of a lent list, what it does at an address, and the values that it puts into its object.
+mod asking;
+pub mod effects;
+pub mod listing;
+pub mod lone;
+pub mod objects;
+mod order;
+
+use instruction::Operand;
+use instruction::Values;
+
+// What a row is: `first` and `count` are places among the lent items, a `node` may be none.
+pub enum Statement {
+    Label,
+    Instruction { node: u16 },
+    Rmb { node: u16 },
+    Fcb { first: u16, count: u16 },
+    Fdb { first: u16, count: u16 },
+    Fcc { first: u16, count: u16 },
+    Org { node: u16 },
+    Unknown,
+}
+
+// The operand of an instruction's row, and whether each of its flags is 0 or 1.
+pub struct Entry {
+    pub flagged: bool,
+    pub operand: Operand,
+}
+
+// The values of an instruction, if it has any; or a refusal.
+pub struct Asked {
+    pub refusal: u8,
+    pub values: Values,
+}
+
+// What an item stands for: a value of FCB, a value of FDB, or a character of FCC.
+pub enum Datum {
+    Byte,
+    Word,
+    Character,
+}
+
+// What a statement does: its refusal or 0, what it counts, of an ORG that it moves and where to, and whether it dirties the page.
+pub struct Effect {
+    pub refusal: u8,
+    pub size: u32,
+    pub moves: bool,
+    pub to: u16,
+    pub dirties: bool,
+}
