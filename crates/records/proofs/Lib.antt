@@ -3,6 +3,7 @@ pub mod Tables
 pub mod Steps
 pub mod Rounds
 pub mod Answers
+pub mod ByteRows
 pub mod Joins
 pub mod Runs
 pub mod Fine

@@ -23,6 +23,11 @@ dataOf [] = []
 dataOf (number ∷ []) = []
 dataOf (number ∷ width ∷ values) = bytesOf number width ++ dataOf values
 
+-- bytes as values of 8 bits
+abbrev pub byteRows : List ℕ → List ℕ
+byteRows [] = []
+byteRows (b ∷ bs) = b ∷ 8 ∷ byteRows bs
+
 -- how many values an object has: its count, and none without data
 unfoldable pub countOf : ℕ → ℕ → ℕ
 countOf kind count = pick (eqb kind 1) count 0

@@ -72,7 +72,7 @@ byte-width a =
     narrow true false p q = sym q
     narrow false eight p q = absurd (false≢true p)
 
-datum-width : (kind : Datum) (ns ls : List ℕ) (here item : ℕ) → datumOf kind ns ls here item .refusal ≡ 0 → datumOf kind ns ls here item .value .width ≡ widthOf kind
+pub datum-width : (kind : Datum) (ns ls : List ℕ) (here item : ℕ) → datumOf kind ns ls here item .refusal ≡ 0 → datumOf kind ns ls here item .value .width ≡ widthOf kind
 unfolding wordOf widenedOf characterOf
 datum-width Byte ns ls here item = byte-width (wantedOf ns ls item here)
 datum-width Word ns ls here item =

@@ -1,17 +1,16 @@
 -- The earliest of some refusals: none of them stands before it in 01's order, and it is one of them; 0 is the earliest where there is none.
 -- Assumes nothing.
-use mathlib.Core.Path.{_≡_, refl, sym, ap, subst}
+use mathlib.Core.Path.{_≡_, refl, ap}
 use mathlib.Core.List.{List, [], _∷_}
 use mathlib.Core.Logic.{_⊎_, inl, inr, ⊎-elim}
-use Prim.Native.Nat.{ℕ, _+_, _<_, _≤_}
+use Prim.Native.Nat.{ℕ, _<_, _≤_}
 use native.Mathlib.Omega.{arith}
-use lib.Dec.{eqb, leb}
-use lib.ListN.{length}
+use lib.Dec.{leb}
 use borrow.Author.Tests.{leb-true, leb-false}
 use Rattle.ground.specs.Choice.{pick}
 use Rattle.ground.proofs.Choices.{by-test, by-pick}
 use Rattle.records.specs.Fine.{Each}
-use Rattle.statements.specs.Order.{order, placeIn, placeOf, earlier, earliest}
+use Rattle.statements.specs.Order.{placeOf, earlier, earliest}
 
 abbrev pub Among : ℕ → List ℕ → Type 0
 Among n [] = ⊥

@@ -22,7 +22,9 @@ use Rattle.statements.specs.declared.Datum.the-variants.{Byte, Word, Cha
 use Rattle.statements.specs.Listing.{statementAt, entryAt}
 use Rattle.statements.specs.Asking.{askedOf, answersFrom, rowsIn}
 use Rattle.statements.specs.Effects.{builtOf}
-use Rattle.statements.specs.Objects.{byteRows, valuesOf, valuesAt, countIn}
+use Rattle.records.specs.Objects.{byteRows}
+use Rattle.records.proofs.ByteRows.{byte-rows-length}
+use Rattle.statements.specs.Objects.{valuesOf, valuesAt, countIn}
 
 pub answers-length : (kind : Datum) (items ns ls : List ℕ) (here first n : ℕ) → length (answersFrom kind items ns ls here first n) ≡ n
 unfolding answersFrom
@@ -32,10 +34,6 @@ answers-length kind items ns ls here first (suc n) = ap suc (answers-length kind
 rows-length : (answers : List Answer) → length (rowsIn answers) ≡ 2 * length answers
 rows-length [] = refl
 rows-length (a ∷ more) = let e = rows-length more in omega arith
-
-byte-rows-length : (bytes : List ℕ) → length (byteRows bytes) ≡ 2 * length bytes
-byte-rows-length [] = refl
-byte-rows-length (b ∷ more) = let e = byte-rows-length more in omega arith
 
 -- as many values as there are items
 pub data-count : (kind : Datum) (items ns ls : List ℕ) (here first n : ℕ) → n ≡ countIn (rowsIn (answersFrom kind items ns ls here first n))

@@ -7,5 +7,6 @@ pub mod Answered
 pub mod Told
 pub mod Small
 pub mod Sizes
+pub mod Lawful
 pub mod Cases
 pub mod Only

@@ -18,6 +18,7 @@ use Rattle.rows.specs.Sizes.{smallestSizeOf}
 use Rattle.rows.proofs.Lengths.{size-known, size-unknown}
 use Rattle.records.specs.Fine.{Each}
 use Rattle.records.specs.Objects.{bytesOf, dataOf}
+use Rattle.records.proofs.ByteRows.{byte-data-length}
 use Rattle.expressions.specs.declared.Answer.{Answer}
 use Rattle.expressions.specs.Finding.{deepest, nodeValue}
 use Rattle.expressions.specs.Answers.{narrowOf, valueOf, answerOf, evaluation}
@@ -34,18 +35,13 @@ use Rattle.entries.specs.Entries.{byteIn, operandOf}
 use Rattle.statements.specs.Listing.{none, statementAt, operandRow, entryIn, entryAt, itemsOf, overfullAt, objectOf}
 use Rattle.statements.specs.Asking.{askedOf, wantedOf, answersFrom, rowsIn}
 use Rattle.statements.specs.Effects.{builtOf, instructionRefusal, instructionEffect, numberRefusal, reservedEffect, originEffect, dataRefusal, effectOf, effectAt, countedOf}
-use Rattle.statements.specs.Objects.{byteRows, valuesOf, valuesAt, bytesAt}
+use Rattle.statements.specs.Objects.{valuesOf, valuesAt, bytesAt}
 use Rattle.statements.proofs.Lengths.{answers-length}
 use Rattle.statements.proofs.Built.{built-five, built-bytes}
 use Rattle.statements.proofs.Answered.{widthOf, answers-width}
 use Rattle.statements.proofs.Told.{instruction-fresh, data-none}
 
 -- ---- bytes
-byte-data-length : (bytes : List ℕ) → length (dataOf (byteRows bytes)) ≡ length bytes
-unfolding bytesOf pick
-byte-data-length [] = refl
-byte-data-length (b ∷ more) = ap suc (byte-data-length more)
-
 -- values of one width, each of so many bytes
 data-length :
     (w size : ℕ) → ((number : ℕ) → length (bytesOf number w) ≡ size) →
@@ -100,7 +96,7 @@ unfolding effectAt valuesAt
 sizes list items ns ls i here dirty ill = bytes-counted (statementAt list i) (entryAt list i) items ns ls here dirty ill
 
 -- ---- every size fits
-wanted-fits :
+pub wanted-fits :
     (ns ls : List ℕ) → Cells Short ns → Cells Short ls → (node here : ℕ) → Short here → Short (wantedOf ns ls node here .value .number)
 unfolding wantedOf evaluation answerOf valueOf
 wanted-fits ns ls hn hl node here h =

@@ -1,17 +1,17 @@
 -- What an accepted effect tells: of an instruction that its fresh build was accepted, of FCB, FDB and FCC that no item is refused.
 -- Assumes nothing.
-use mathlib.Core.Path.{_≡_, refl, sym, ap, _∙_}
+use mathlib.Core.Path.{_≡_, refl}
 use mathlib.Core.Bool.{Bool, true, false}
-use mathlib.Core.List.{List}
-use mathlib.Core.Logic.{inl, inr}
-use Prim.Native.Nat.{ℕ}
+use mathlib.Core.List.{List, _∷_}
+use mathlib.Core.Logic.{_⊎_, inl, inr}
+use Prim.Native.Nat.{ℕ, _≤_}
 use native.Mathlib.Omega.{arith}
 use lib.Dec.{eqb}
 use borrow.Author.Tests.{eqb-true, eqb-false}
 use Rattle.ground.specs.Choice.{pick}
-use Rattle.ground.proofs.Choices.{by-test, by-pick, pick-false}
-use Rattle.rows.specs.Sizes.{smallestSizeOf}
+use Rattle.ground.proofs.Choices.{by-test}
 use Rattle.records.specs.Fine.{Each}
+use Rattle.expressions.specs.declared.Answer.{Answer}
 use Rattle.instruction.specs.declared.Built.{Built}
 use Rattle.instruction.specs.Building.{freshOf}
 use Rattle.statements.specs.declared.Statement.the-variants.{Instruction}
@@ -22,7 +22,7 @@ use Rattle.statements.specs.declared.Effect.{Effect}
 use Rattle.statements.specs.Order.{placeOf, earlier}
 use Rattle.statements.specs.Asking.{askedOf, answersFrom, refusalsIn}
 use Rattle.statements.specs.Effects.{ownLabel, entryRefusal, recordOf, builtOf, instructionRefusal, instructionEffect, dataRefusal, effectOf}
-use Rattle.statements.proofs.Firsts.{Ordered, neither, none-of-them, earliest-ordered}
+use Rattle.statements.proofs.Firsts.{Among, first-of-all, one-of-them, Ordered, neither, none-of-them, earliest-ordered}
 use Rattle.statements.proofs.Answered.{answers-ordered}
 
 -- ---- an instruction
@@ -90,6 +90,17 @@ pub label-ordered : (ill : Bool) → Ordered (ownLabel ill)
 unfolding ownLabel placeOf pick
 label-ordered true = inr (omega arith)
 label-ordered false = inl refl
+
+-- of the label's refusal and those of all items, none stands before the one that is given
+pub data-first :
+    (answers : List Answer) (ill : Bool) (r : ℕ) → Among r (ownLabel ill ∷ refusalsIn answers) → placeOf (dataRefusal answers ill) ≤ placeOf r
+unfolding dataRefusal
+data-first answers ill r m = first-of-all (ownLabel ill ∷ refusalsIn answers) r m
+
+-- and it is one of them, or none
+pub data-one : (answers : List Answer) (ill : Bool) → (dataRefusal answers ill ≡ 0) ⊎ Among (dataRefusal answers ill) (ownLabel ill ∷ refusalsIn answers)
+unfolding dataRefusal
+data-one answers ill = one-of-them (ownLabel ill ∷ refusalsIn answers)
 
 pub data-none :
     (kind : Datum) (items ns ls : List ℕ) (here first n : ℕ) (ill : Bool) →

@@ -9,11 +9,11 @@ use lib.Seq.{length-take-le, getD-take}
 use Rattle.ground.specs.Stores.{put}
 use Rattle.ground.proofs.Stores.{put-length, drop-next}
 use Rattle.expressions.specs.declared.Answer.{Answer}
+use Rattle.records.specs.Objects.{byteRows}
 use Rattle.statements.specs.declared.Datum.{Datum}
 use Rattle.statements.specs.Order.{earlier, earliest}
 use Rattle.statements.specs.Listing.{itemAt}
 use Rattle.statements.specs.Asking.{datumOf, answersFrom, refusalsIn, rowsIn}
-use Rattle.statements.specs.Objects.{byteRows}
 
 -- the answers of the items from the k-th on
 abbrev pub left : Datum → List ℕ → List ℕ → List ℕ → ℕ → ℕ → ℕ → ℕ → List Answer

@@ -14,7 +14,6 @@ use Rattle.statements.specs.declared.Statement.{Statement}
 use Rattle.statements.specs.declared.Statement.the-variants.{Label, Instruction, Rmb, Fcb, Fdb, Fcc, Org, Unknown}
 use Rattle.statements.specs.declared.Entry.{Entry}
 use Rattle.statements.specs.declared.Asked.{Asked}
-use Rattle.statements.specs.declared.Datum.{Datum}
 use Rattle.statements.specs.declared.Datum.the-variants.{Byte, Word, Character}
 use Rattle.statements.specs.declared.Effect.{Effect}
 use Rattle.statements.specs.Order.{earlier, earliest}
@@ -57,6 +56,7 @@ instructionEffect e why b =
     (counts why (smallestSizeOf (e .operand .operation)))
 
 -- ---- RMB and ORG
+-- without an operand they are 3, and the 10 of their own label comes before it
 unfoldable pub numberRefusal : Answer → Bool → ℕ
 numberRefusal a ill = earlier (a .refusal) (ownLabel ill)
 
@@ -70,6 +70,7 @@ originEffect a why =
     pick (eqb why 0) (record { refusal = 0; size = 0; moves = true; to = a .value .number; dirties = false }) (counts why 0)
 
 -- ---- FCB, FDB, FCC
+-- ".. 11, 10, 3, .. 6": of the label and all values the earliest in the order, wherever in the statement it stands
 unfoldable pub dataRefusal : List Answer → Bool → ℕ
 dataRefusal answers ill = earlier (ownLabel ill) (earliest (refusalsIn answers))
 

@@ -4,7 +4,7 @@ use mathlib.Core.Bool.{Bool}
 use mathlib.Core.List.{List, [], _∷_}
 use lib.ListN.{length}
 use Rattle.instruction.specs.Building.{bytesIn}
-use Rattle.records.specs.Objects.{dataOf}
+use Rattle.records.specs.Objects.{dataOf, byteRows}
 use Rattle.statements.specs.declared.Statement.{Statement}
 use Rattle.statements.specs.declared.Statement.the-variants.{Label, Instruction, Rmb, Fcb, Fdb, Fcc, Org, Unknown}
 use Rattle.statements.specs.declared.Entry.{Entry}
@@ -12,11 +12,6 @@ use Rattle.statements.specs.declared.Datum.the-variants.{Byte, Word, Cha
 use Rattle.statements.specs.Listing.{statementAt, entryAt}
 use Rattle.statements.specs.Asking.{askedOf, answersFrom, rowsIn}
 use Rattle.statements.specs.Effects.{builtOf}
-
--- bytes as values of 8 bits
-abbrev pub byteRows : List ℕ → List ℕ
-byteRows [] = []
-byteRows (b ∷ bs) = b ∷ 8 ∷ byteRows bs
 
 -- an instruction has its bytes, FCB and FCC values of 8 bits, FDB values of 16; the others have none
 abbrev pub valuesOf : Statement → Entry → List ℕ → List ℕ → List ℕ → ℕ → Bool → List ℕ

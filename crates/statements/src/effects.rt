@@ -19,8 +19,7 @@ use instruction::Record;
 use instruction::assemble;
 use rows::sizes::smallest_size;
 ghost use mathlib.Core.Path.{_≡_};
-ghost use Rattle.statements.specs.Order.{earliest};
-ghost use Rattle.statements.specs.Asking.{askedOf, wantedOf, answersFrom, refusalsIn};
+ghost use Rattle.statements.specs.Asking.{askedOf, answersFrom};
 ghost use Rattle.statements.specs.Effects.{counts, ownLabel, entryRefusal, builtOf, instructionRefusal, instructionEffect, numberRefusal, reservedEffect, originEffect, dataRefusal, effectAt, countedOf};
 
 // "Running to 65536 is allowed."

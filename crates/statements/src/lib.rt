@@ -28,13 +28,13 @@ pub struct Entry {
 }
 
 // The values of an instruction, if it has any; or a refusal.
-pub struct Asked {
+pub(crate) struct Asked {
     pub refusal: u8,
     pub values: Values,
 }
 
 // What an item stands for: a value of FCB, a value of FDB, or a character of FCC.
-pub enum Datum {
+pub(crate) enum Datum {
     Byte,
     Word,
     Character,

@@ -48,6 +48,7 @@ pub(crate) fn item(items: &[u16], at: usize) -> u16
     NONE
 }
 
+// "An enum of statement kinds, arrays beside it": the kinds by number.
 fn statement(kind: u16, node: u16, first: u16, count: u16) -> Statement
     ensures { λ r. ⌜ r ≡ statementOf kind node first count ⌝ }
 {

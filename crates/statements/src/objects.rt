@@ -17,8 +17,10 @@ ghost use Rattle.ground.specs.Stores.{put};
 ghost use Rattle.instruction.specs.Building.{bytesIn};
 ghost use Rattle.statements.specs.Asking.{askedOf, answersFrom, rowsIn};
 ghost use Rattle.statements.specs.Effects.{builtOf};
-ghost use Rattle.statements.specs.Objects.{byteRows, valuesAt, countIn};
+ghost use Rattle.records.specs.Objects.{byteRows};
+ghost use Rattle.statements.specs.Objects.{valuesAt, countIn};
 
+// A row of two numbers. Its place is at most the values of one statement past the end, so that no sum overflows.
 fn store_row(values: &mut [u16], at: usize, number: u16, width: u16)
     requires { ⌜ at ≤ length (now values) + 131072 ⌝ }
     ensures { λ _. ⌜ now (values .exit) ≡ put (now (values .entry)) at (number ∷ width ∷ []) ⌝ }
@@ -27,6 +29,7 @@ fn store_row(values: &mut [u16], at: usize, number: u16, width: u16)
     store_cell(values, at + 1, width);
 }
 
+// An instruction's bytes, as values of 8 bits.
 fn store_bytes(bytes: [u8; 5], count: u8, values: &mut [u16], place: usize)
     requires { ⌜ (count ≤ 5) × (place ≤ length (now values)) ⌝ }
     ensures { λ _. ⌜ now (values .exit) ≡ put (now (values .entry)) place (byteRows (take count bytes)) ⌝ }
@@ -38,6 +41,7 @@ fn store_bytes(bytes: [u8; 5], count: u8, values: &mut [u16], place: usize)
     }
 }
 
+// The values of FCB, FDB or FCC.
 fn store_data(
     kind: Datum,
     items: &[u16],
@@ -67,6 +71,7 @@ fn store_data(
     }
 }
 
+// The bytes of a fresh build, and how many there are.
 fn store_instruction(
     entry: Entry,
     nodes: &[u16],

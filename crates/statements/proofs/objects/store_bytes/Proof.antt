@@ -1,13 +1,12 @@
 -- `statements::objects::store_bytes` meets its contract: what is left, stored after what is stored, is the whole.
 -- Assumes nothing.
 use mathlib.Core.Path.{_≡_, refl, sym, ap, _∙_}
-use mathlib.Core.List.{List}
-use Prim.Native.Nat.{ℕ, _+_, _-_, _*_, _≤_}
+use Prim.Native.Nat.{_+_, _-_, _*_, _≤_}
 use native.Mathlib.Nat.{add-zero}
 use native.Mathlib.Omega.{arith}
 use lib.ListN.{length, take, drop, getD}
 use Rattle.ground.specs.Stores.{put}
-use Rattle.statements.specs.Objects.{byteRows}
+use Rattle.records.specs.Objects.{byteRows}
 use Rattle.statements.proofs.Turns.{row-turn, bytes-next, bytes-none}
 use borrow.Author.Needs.{needs}
 use Rattle.statements.proofs.objects.store_bytes.Statement.{statement}

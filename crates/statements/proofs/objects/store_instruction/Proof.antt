@@ -1,6 +1,6 @@
 -- `statements::objects::store_instruction` meets its contract.
 -- Assumes nothing.
-use mathlib.Core.Path.{_≡_, refl, sym, ap, _∙_}
+use mathlib.Core.Path.{sym, ap, _∙_}
 use Rattle.instruction.specs.declared.Built.{Built}
 use Rattle.instruction.specs.Building.{bytesIn}
 use Rattle.instruction.proofs.Padded.{Five}
