@@ -1,0 +1,152 @@
+"""The cases of the read-back program, made from document 01's rules by hand: each is a text and what must be printed for it.
+
+  python3 harness/readback_cases.py           runs ./readback on every case, and compares; exit 1 if one differs
+  python3 harness/readback_cases.py --write   writes the texts and the lines that the gate compares: crates/listings, crates/readback, examples
+
+Where an instruction ends is written down here, a blank between bytes and a bar between instructions, from the sheet's lengths: nothing here decodes.
+"""
+import os
+import subprocess
+import sys
+
+ROOT = os.path.dirname(os.path.dirname(os.path.abspath(__file__)))
+LISTINGS = os.path.join(ROOT, "crates", "listings")
+LONGEST = 65536
+
+
+def line(kind, address, data, end="\n"):
+    """A record of Intel's format."""
+    body = bytes([len(data), address >> 8, address & 255, kind]) + data
+    return f":{body.hex().upper()}{-sum(body) & 255:02X}{end}"
+
+
+END = line(1, 0, b"")
+
+
+def records(*parts, width=32):
+    """The text of parts (address, instructions) in lines of that many bytes, and the end record."""
+    text = ""
+    for address, instructions in parts:
+        data = bytes.fromhex(instructions.replace("|", " "))
+        for at in range(0, len(data), width):
+            text += line(0, address + at, data[at : at + width])
+    return text + END
+
+
+def listed(*parts, last=None):
+    """What is printed for them: each part from its own address on, and the last line."""
+    out, count = "", 0
+    for address, instructions in parts:
+        for instruction in instructions.split("|"):
+            out += f"{address:04X} {instruction.strip().upper()}\n"
+            address += len(instruction.split())
+            count += 1
+    return out + (last or f"end {count}\n")
+
+
+def refused(number, *before):
+    return listed(*before, last=f"refused {number}\n")
+
+
+CODE = (0x0100, "A6 84 | 39")
+TWO = ((0x0200, "86 05 | 8D 01 | 12"), (0x0100, "10 8E 12 34 | 39"))
+FILLER = "".join(line(0, 0x0100 + 255 * k, b"\x01" * 255) for k in range(125)) + line(0, 0x0100 + 255 * 125, b"\x01" * 131) + END
+NOPS = [(0x0100 + 255 * k, b"\x12" * 255) for k in range(125)] + [(0x0100 + 255 * 125, b"\x12" * 131)]
+
+# a name, a text, and what is printed for it
+CASES = [
+    # document 01's own; no instruction; the last line end missing
+    ("example", ":03010000A6843999\n:00000001FF\n", "0100 A6 84\n0102 39\nend 2\n"),
+    ("no_instruction", END, "end 0\n"),
+    ("no_last_line_end", records(CODE)[:-1], listed(CODE)),
+    # either case, LF or CR LF, and both mixed
+    ("lower_case", records(CODE).lower(), listed(CODE)),
+    ("cr_lf", records(CODE).replace("\n", "\r\n"), listed(CODE)),
+    ("mixed", line(0, 0x0100, b"\xA6\x84").lower() + line(0, 0x0102, b"\x39", "\r\n") + END, listed(CODE)),
+    # several runs, in the text's order; records that follow on are one run, also where an instruction crosses from one to the next
+    ("several_runs", records(*TWO), listed(*TWO)),
+    ("follows_on", records((0x0100, "10 AE 9F 12 34 | 16 FF F7"), width=3), listed((0x0100, "10 AE 9F 12 34 | 16 FF F7"))),
+    ("same_address_twice", records(CODE, CODE), listed(CODE, CODE)),
+    # a run that ends at FFFF, and one at 0000 after it, which does not follow on
+    ("last_address", records((0xFFFD, "B6 C0 00")), listed((0xFFFD, "B6 C0 00"))),
+    ("around_the_end", records((0xFFFF, "39"), (0x0000, "12")), listed((0xFFFF, "39"), (0x0000, "12"))),
+    # each shape of an instruction
+    (
+        "shapes",
+        records((0x8000, "0F 20|6F E9 01 00|7F C0 00|4F|5F|1A 50|34 FF|1F 8B|30 8C F0|A6 9F FF FE|20 FE|10 27 00 10|CC 12 34|10 DF 40|10 3F|11 83 00 01|3B")),
+        listed((0x8000, "0F 20|6F E9 01 00|7F C0 00|4F|5F|1A 50|34 FF|1F 8B|30 8C F0|A6 9F FF FE|20 FE|10 27 00 10|CC 12 34|10 DF 40|10 3F|11 83 00 01|3B")),
+    ),
+    # 14: an undefined code, a second prefix, a postbyte, registers of two sizes; what stands before it is printed, what follows is not
+    ("undefined_code", records((0x0100, "12 01 12"), (0x0200, "39")), refused(14, (0x0100, "12"))),
+    ("second_prefix", records((0x0100, "10 10 8E 12 34")), refused(14)),
+    ("undefined_postbyte", records((0x0100, "A6 84 A6 87")), refused(14, (0x0100, "A6 84"))),
+    ("unequal_registers", records((0x0200, "39"), (0x0100, "1F 18")), refused(14, (0x0200, "39"))),
+    # 15: a run ends inside an instruction, though the next run begins with its byte
+    ("cut_short", records((0x0100, "12 B6 C0"), (0x0200, "00 39")), refused(15, (0x0100, "12"))),
+    ("lone_prefix", records((0x0100, "39 11")), refused(15, (0x0100, "39"))),
+    # 16, alone: no text, a wrong check, no end record, something after it, a blank line, a lone CR; and before 18
+    ("nothing", "", refused(16)),
+    ("wrong_check", ":03010000A6843998\n" + END, refused(16)),
+    ("no_end_record", line(0, 0x0100, b"\x39"), refused(16)),
+    ("after_the_end", records(CODE) + "\n", refused(16)),
+    ("blank_line", line(0, 0x0100, b"\x39") + "\n" + END, refused(16)),
+    ("lone_return", line(0, 0x0100, b"\x39", "\r") + END, refused(16)),
+    ("broken_and_beyond", line(0, 0xFFFF, b"\x39\x39") + END + END, refused(16)),
+    # 18, alone, though an instruction before it is refused
+    ("beyond", records((0x0100, "01"), (0xFFFF, "39 39")), refused(18)),
+    # 9: a text of 65,536 bytes is taken, one of 65,537 is not, whatever is wrong with it
+    ("longest", FILLER, refused(14)),
+    ("too_long", FILLER + "?", refused(9)),
+]
+
+# the listing with the most lines, which is not kept as a file
+LARGEST = ("".join(line(0, a, d) for a, d in NOPS) + END, "".join(f"{0x0100 + k:04X} 12\n" for k in range(sum(len(d) for _, d in NOPS))) + "end 32006\n")
+
+# the fragment of a tip counter: its rack has 96 tips, and the sensor's port is at C000
+TIP_COUNTER = (
+    # START LDS #$0400, LDA #96, STA TIPS, LDX #PORT
+    # PICK LDA ,X, ANDA #1, BEQ PICK, DEC TIPS, BEQ EMPTY
+    # DROP LDA ,X, ANDA #1, BNE DROP, BRA PICK
+    # EMPTY LDA #$80, STA 1,X, STOP BRA STOP
+    (0xF000, "10 CE 04 00|86 60|B7 01 00|8E C0 00|A6 84|84 01|27 FA|7A 01 00|27 08|A6 84|84 01|26 FA|20 ED|86 80|A7 01|20 FE"),
+    # TICK INC TICKS, RTI
+    (0xF100, "7C 01 01|3B"),
+)
+
+
+def write(path, text):
+    os.makedirs(os.path.dirname(path), exist_ok=True)
+    with open(path, "w", newline="") as out:
+        out.write(text)
+
+
+def write_all():
+    for name, text, _ in CASES:
+        write(os.path.join(LISTINGS, "data", name), text)
+    write(os.path.join(LISTINGS, "stdout"), "".join(f"{name}:\n{lines}" for name, _, lines in CASES))
+    _, text, lines = CASES[0]
+    write(os.path.join(ROOT, "crates", "readback", "stdin"), text)
+    write(os.path.join(ROOT, "crates", "readback", "stdout"), lines)
+    write(os.path.join(ROOT, "examples", "tip_counter.hex"), records(*TIP_COUNTER, width=16))
+
+
+def run_all():
+    image = os.path.join(ROOT, "examples", "tip_counter.hex")
+    cases = CASES + [("largest", *LARGEST), (image, open(image, newline="").read(), listed(*TIP_COUNTER))]
+    differing = 0
+    for name, text, lines in cases:
+        done = subprocess.run([os.path.join(ROOT, "readback")], input=text.encode(), capture_output=True)
+        if done.stdout != lines.encode():
+            differing += 1
+            print(f"{name}: printed {done.stdout[:200]!r}, expected {lines[:200]!r} {done.stderr.decode()}")
+    print(f"{len(cases)} compared, {differing} differ")
+    return 1 if differing else 0
+
+
+assert len(FILLER) == LONGEST and len(LARGEST[0]) == LONGEST
+if sys.argv[1:] == ["--write"]:
+    write_all()
+elif sys.argv[1:]:
+    sys.exit(__doc__)
+else:
+    sys.exit(run_all())
