@@ -1,0 +1,107 @@
+-- Texts of other makers against 01's two instructions, `LDA` 0,X and `RTS` at 0100, under a single statement: equal, and each way to differ.
+-- Assumes nothing.
+use mathlib.Core.Path.{_≡_, refl}
+use mathlib.Core.Bool.{true, false}
+use mathlib.Core.List.{List, [], _∷_, _++_, map}
+use Prim.Native.Nat.{ℕ}
+use lib.ListN.{replicate}
+use Rattle.ground.specs.Choice.{pick}
+use Rattle.values.specs.Widths.{bitsOf, extended, validOf, signExtendedOf}
+use Rattle.rows.specs.Sheet.{page0, page10, page11, tableOf}
+use Rattle.rows.specs.Lookup.{mergedOf, placed, hasFormOf, knownOf, codeOf, rowOf}
+use Rattle.rows.specs.Sizes.{isWide, isLong, numberAt, numberSizeOf}
+use Rattle.postbytes.specs.Lists.{anyUnknown, strangeList}
+use Rattle.postbytes.specs.Reading.{directOnly, counterOnly, addressOnly, highOf, shapeOf}
+use Rattle.postbytes.specs.Writing.{marked, constantOf, offsetOf}
+use Rattle.instruction.specs.Records.{stepped, recognised, narrower, agreeing, lawful, sound}
+use Rattle.instruction.specs.Forms.{registerForm, formOf, strays, lacks, needsValue}
+use Rattle.instruction.specs.Choosing.{inherentOf, accumulatorIndex, offsetValue, offsetIndex, indexOf, chooseOf}
+use Rattle.instruction.specs.Bytes.{numberBytes, operandBytes, codeSize, behindCode, laidAt, laidOf}
+use Rattle.instruction.specs.Building.{instructionOf, madeAs, makeOf, earlyOf, dirtiesOf, acceptedOf, finishedOf, buildOf, handed, freshFrom, freshOf}
+use Rattle.meanings.specs.Means.{offsetIn, offsetKind, indexKind, kindOf, operationOf, meaningOf}
+use Rattle.entries.specs.Entries as entries
+use Rattle.entries.specs.Entries.{byteIn, isFlag, flagIn, flaggedIn, registersIn, valueIn, valuesIn, allFlagged, toldIn, entryOf}
+use Rattle.laying.specs.Entries.{entryAt, rowsIn, entriesFrom, entriesOf}
+use Rattle.laying.specs.Laying.{builtAt, refusalAt, layFrom, layOf}
+use Rattle.laying.specs.Meant.{meaningsFrom}
+use Rattle.records.specs.Hex.{hexOf}
+use Rattle.records.specs.Line.{checkOf, body, line}
+use Rattle.reader.specs.Digits.{digitOf, pairOf, behind}
+use Rattle.reader.specs.Lines as lines
+use Rattle.reader.specs.Lines.{countOf, typeOf, dataOf, endsLine, afterEnd, recordOf, lineIn, recordsIn}
+use Rattle.reader.specs.Answers.{runsIn}
+use Rattle.reader.proofs.Cases.{code, end, lf, first}
+use Rattle.decoder.specs.Origin.{shifted, outside}
+use Rattle.decoder.specs.Meaning.{joined}
+use Rattle.decoder.specs.Operands.{numberOf, numberedOf, numberedAt, indexedAs, indexedAt, operandOf}
+use Rattle.decoder.specs.Front.{codedOf, frontOf}
+use Rattle.decoder.specs.Run.{runFrom, runOf}
+use Rattle.roundtrip.specs.Same.{sameParts, sameMeaning, same}
+use Rattle.roundtrip.specs.Comparing.{refused, answer, textAgainst, compareOf}
+use Rattle.roundtrip.specs.declared.Compared.{Compared}
+
+abbrev list : List ℕ
+list =
+    54 ∷ 1 ∷ 0 ∷ 0 ∷ 0 ∷ 0 ∷ 1 ∷ 3 ∷ 0 ∷ 0 ∷ 0 ∷ 0 ∷ 0 ∷ 0 ∷ 0 ∷ 0 ∷ 0 ∷ 0 ∷ 0 ∷ 0 ∷ 0
+    ∷ 128 ∷ 7 ∷ 0 ∷ 0 ∷ 0 ∷ 0 ∷ 0 ∷ 0 ∷ 0 ∷ 0 ∷ 0 ∷ 0 ∷ 0 ∷ 0 ∷ 0 ∷ 0 ∷ 0 ∷ 0 ∷ 0 ∷ 0 ∷ 0 ∷ []
+
+-- bytes at an address, and the end record
+abbrev at : ℕ → List ℕ → List ℕ
+at address bytes = line 0 address bytes ++ end
+
+pub data Question : Type 0 where
+  compare : List ℕ → ℕ → List ℕ → Question
+
+abbrev ask : Question → Compared
+ask (compare l address text) = compareOf l address text
+
+abbrev asked : List Question
+asked =
+    -- 01's own text, and the same in two records
+    compare list 0x0100 first
+    ∷ compare list 0x0100 (line 0 0x0100 (0xA6 ∷ []) ++ at 0x0101 (0x84 ∷ 0x39 ∷ []))
+    -- it starts elsewhere; there is no run
+    ∷ compare list 0x0101 first
+    ∷ compare list 0x0100 end
+    -- another second instruction; `LDA` 0,X in three bytes, of the same meaning
+    ∷ compare list 0x0100 (at 0x0100 (0xA6 ∷ 0x84 ∷ 0x12 ∷ []))
+    ∷ compare list 0x0100 (at 0x0100 (0xA6 ∷ 0x88 ∷ 0x00 ∷ 0x39 ∷ []))
+    -- one instruction more, one less, one cut short
+    ∷ compare list 0x0100 (at 0x0100 (0xA6 ∷ 0x84 ∷ 0x39 ∷ 0x39 ∷ []))
+    ∷ compare list 0x0100 (at 0x0100 (0xA6 ∷ 0x84 ∷ []))
+    ∷ compare list 0x0100 (at 0x0100 (0xA6 ∷ 0x84 ∷ 0x10 ∷ []))
+    -- a second run
+    ∷ compare list 0x0100 (code ++ lf ++ at 0x0200 (0x39 ∷ []))
+    -- no instruction against no run, and against one
+    ∷ compare [] 0x0100 end
+    ∷ compare [] 0x0100 first
+    -- a broken text, one with a byte beyond 65535; and the list's refusal before the text's
+    ∷ compare list 0x0100 code
+    ∷ compare list 0x0100 (at 0xFFFF (0x12 ∷ 0x12 ∷ []))
+    ∷ compare list 0xFFFE code
+    ∷ compare (replicate 21525 0) 0x0100 code
+    ∷ []
+
+abbrev answered : List Compared
+answered =
+    answer true 2
+    ∷ answer true 2
+    ∷ answer false 0
+    ∷ answer false 0
+    ∷ answer false 1
+    ∷ answer false 0
+    ∷ answer false 2
+    ∷ answer false 1
+    ∷ answer false 1
+    ∷ answer false 2
+    ∷ answer true 0
+    ∷ answer false 0
+    ∷ refused 16
+    ∷ refused 18
+    ∷ refused 18
+    ∷ refused 17
+    ∷ []
+
+pub cases : map ask asked ≡ answered
+unfolding pick bitsOf extended validOf signExtendedOf tableOf page0 page10 page11 mergedOf placed hasFormOf knownOf codeOf rowOf isWide isLong numberAt numberSizeOf anyUnknown strangeList directOnly counterOnly addressOnly highOf shapeOf marked constantOf offsetOf stepped recognised narrower agreeing lawful sound registerForm formOf strays lacks needsValue inherentOf accumulatorIndex offsetValue offsetIndex indexOf chooseOf numberBytes operandBytes codeSize behindCode laidAt laidOf instructionOf madeAs makeOf earlyOf dirtiesOf acceptedOf finishedOf buildOf handed freshFrom freshOf offsetIn offsetKind indexKind kindOf operationOf meaningOf byteIn isFlag flagIn flaggedIn registersIn entries.operandOf valueIn valuesIn allFlagged toldIn entryOf entryAt rowsIn entriesFrom entriesOf builtAt refusalAt layFrom layOf meaningsFrom hexOf checkOf body line digitOf pairOf behind countOf lines.addressOf lines.sound typeOf dataOf endsLine afterEnd recordOf lineIn recordsIn runsIn shifted outside joined numberOf numberedOf numberedAt indexedAs indexedAt operandOf codedOf frontOf runFrom runOf sameParts sameMeaning same textAgainst compareOf
+cases = refl

@@ -1,0 +1,122 @@
+-- Demand 3: laying, writing, reading and decoding give back what the records mean; and so lists that differ in meaning never share a text.
+-- Assumes nothing.
+use borrow.Author.Tests.{le-ltb}
+use mathlib.Core.Path.{_≡_, refl, sym, ap, _∙_}
+use mathlib.Core.List.{List, [], _∷_, append-nil}
+use Prim.Native.Nat.{ℕ, zero, suc, _+_, _%_, _≤_, _<_}
+use native.Mathlib.Omega.{arith}
+use lib.ListN.{length}
+use Rattle.ground.proofs.Choices.{pick-false}
+use Rattle.records.specs.Text.{Rec, close}
+use Rattle.records.specs.Fine.{Bytes}
+use Rattle.records.proofs.Fine.{bytes-append}
+use Rattle.reader.specs.Answers.{runsIn}
+use Rattle.decoder.specs.declared.Decoded.{Decoded}
+use Rattle.decoder.specs.Origin.{origin, outside}
+use Rattle.decoder.specs.Run.{runFrom, runOf, refusalIn}
+use Rattle.decoder.proofs.Runs.{lengthsOf}
+use Rattle.instruction.specs.declared.Record.{Record}
+use Rattle.instruction.specs.Building.{bytesIn}
+use Rattle.laying.specs.Entries.{rowsIn, entriesFrom, entriesOf}
+use Rattle.laying.specs.Laying as laying
+use Rattle.laying.specs.Laying.{builtAt, layFrom, layOf}
+use Rattle.laying.specs.Exactly.{bytesFrom}
+use Rattle.laying.specs.Meant.{meaningsFrom}
+use Rattle.laying.proofs.Exactly.{fits-laid, laid-exactly}
+use Rattle.laying.proofs.Decodes.{laid-decodes, laid-whole}
+use Rattle.roundtrip.specs.Demand.{decodedIn, backFrom, totalOf, DemandThree, TextsTell}
+use Rattle.entries.proofs.Small.{fresh-bytes}
+use Rattle.roundtrip.proofs.Written.{object-written, object-run, object-read}
+
+-- ---- what was laid
+laid-bytes : (entries : List Record) (at : ℕ) → Bytes (bytesFrom entries at)
+unfolding bytesFrom builtAt
+laid-bytes [] at = tt
+laid-bytes (entry ∷ entries) at =
+    bytes-append (bytesIn (builtAt entry at)) (bytesFrom entries (at + builtAt entry at .length))
+    (fresh-bytes entry (at % 65536)) (laid-bytes entries (at + builtAt entry at .length))
+
+rows-many : (rows : ℕ) (list : List ℕ) (at : ℕ) → length (entriesFrom rows list at) ≡ rows
+unfolding entriesFrom
+rows-many zero list at = refl
+rows-many (suc rows) list at = ap suc (rows-many rows list (at + 21))
+
+pub entries-many : (list : List ℕ) → length (entriesOf list) ≡ rowsIn list
+unfolding entriesOf
+entries-many list = rows-many (rowsIn list) list 0
+
+-- ---- one run is decoded as it stands
+pub one-decoded : (address : ℕ) (bytes : List ℕ) → address ≤ 65536 → decodedIn (close address bytes []) ≡ runOf bytes (origin address)
+unfolding runOf outside runFrom
+one-decoded address [] h = sym (pick-false _ _ (le-ltb 65536 (address + 0) (omega arith)))
+one-decoded address (b ∷ bytes) h = append-nil (runOf (b ∷ bytes) (origin address))
+
+sizes : (ds : List Decoded) → totalOf ds ≡ lengthsOf ds
+sizes [] = refl
+sizes (d ∷ ds) = ap (λ (n : ℕ). d .length + n) (sizes ds)
+
+-- ---- what was laid: bytes, none beyond 65535, that decode to what the records mean
+pub record Taken (list : List ℕ) (address : ℕ) (bytes : List ℕ) : Type 0 where
+  pub small : Bytes bytes
+  pub near : address + length bytes ≤ 65536
+  pub decoded : runOf bytes (origin address) ≡ meaningsFrom (entriesOf list) address
+  pub accepted : refusalIn (runOf bytes (origin address)) ≡ 0
+  pub number : length (runOf bytes (origin address)) ≡ rowsIn list
+  pub whole : lengthsOf (runOf bytes (origin address)) ≡ length bytes
+
+pub laid-taken : (list : List ℕ) (address room : ℕ) (bytes : List ℕ) → address < 65536 → layOf list address room ≡ laying.Bytes bytes → Taken list address bytes
+laid-taken list address room bytes h e =
+    let entries = entriesOf list in
+    let exact = laid-exactly list address room (omega arith) bytes .0 e in
+    let laid : layFrom entries address room ≡ laying.Bytes bytes = fits-laid entries address room (exact .1) ∙ ap laying.Bytes (sym (exact .2)) in
+    let all = laid-whole entries address room bytes (omega arith) laid in
+    record {
+      small = rw (exact .2) (laid-bytes entries address);
+      near = omega (arith, exact .1 .within, ap length (exact .2));
+      decoded = laid-decodes entries address room bytes (omega arith) laid;
+      accepted = all .0;
+      number = all .1 ∙ entries-many list;
+      whole = all .2;
+    }
+
+pub demand-three : DemandThree
+unfolding backFrom
+demand-three list address room bytes h e =
+    let t = laid-taken list address room bytes h e in
+    let run = object-run address bytes (t .small) (t .near) in
+    let decoded : backFrom address bytes ≡ runOf bytes (origin address) =
+    ap decodedIn run ∙ one-decoded address bytes (omega arith) in
+    record {
+      written = object-written address bytes (t .small) (t .near);
+      read = object-read address bytes (t .small) (t .near);
+      run = run;
+      same = decoded ∙ t .decoded;
+      number = ap length decoded ∙ t .number;
+      accepted = ap refusalIn decoded ∙ t .accepted;
+      whole = ap totalOf decoded ∙ sizes (runOf bytes (origin address)) ∙ t .whole;
+    }
+
+-- ---- one run tells its bytes, and its address where it has any
+record SameRun (a b : ℕ) (xs ys : List ℕ) : Type 0 where
+  bytes : xs ≡ ys
+  place : 0 < length xs → a ≡ b
+
+same-run : (a b : ℕ) (xs ys : List ℕ) → close a xs [] ≡ close b ys [] → SameRun a b xs ys
+same-run a b [] [] e = record { bytes = refl; place = λ h. absurd (omega arith) }
+same-run a b [] (y ∷ ys) e = absurd (omega (arith, ap length e))
+same-run a b (x ∷ xs) [] e = absurd (omega (arith, ap length e))
+same-run a b (x ∷ xs) (y ∷ ys) e =
+    let r : _≡_ {A = Rec} (record { address = a; bytes = x ∷ xs }) (record { address = b; bytes = y ∷ ys }) = cc in
+    record { bytes = ap (λ (p : Rec). p .bytes) r; place = λ _. ap (λ (p : Rec). p .address) r }
+
+pub texts-tell : TextsTell
+unfolding backFrom
+texts-tell xs ys a b roomx roomy these those ha hb ea eb t =
+    let p = demand-three xs a roomx these ha ea in
+    let q = demand-three ys b roomy those hb eb in
+    let s = same-run a b these those (sym (p .run) ∙ ap runsIn t ∙ q .run) in
+    record {
+      means = sym (p .same) ∙ ap (λ (text : List ℕ). decodedIn (runsIn text)) t ∙ q .same;
+      bytes = s .bytes;
+      place = s .place;
+    }

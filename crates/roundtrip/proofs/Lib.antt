@@ -1,0 +1,10 @@
+pub mod Written
+pub mod Values
+pub mod Demand
+pub mod Same
+pub mod Agreeing
+pub mod Texts
+pub mod Equal
+pub mod Fronts
+pub mod Cases
+pub mod Only
