@@ -1,0 +1,11 @@
+pub mod Bearers
+pub mod Tables
+pub mod Turns
+pub mod Rounds
+pub mod Still
+pub mod Counted
+pub mod Rests
+pub mod Accepted
+pub mod Fine
+pub mod Cases
+pub mod Only

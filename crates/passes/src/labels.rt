@@ -1,0 +1,122 @@
+// Which statement each label belongs to, and the label table before the first pass and after the last.
+use ground::buffers::store_cell;
+use ground::tables::cell;
+use statements::listing::label_at;
+ghost use mathlib.Core.Path.{_≡_};
+ghost use Prim.Native.Nat.{_*_, _<_, _≤_, min};
+ghost use lib.ListN.{replicate};
+ghost use Rattle.ground.specs.Stores.{put};
+ghost use Rattle.passes.specs.Labels.{rowsOf, illOf, begunTable, laidOver};
+ghost use Rattle.passes.specs.Steps.{bearersOf, lentOf, stateOf, rowOf};
+
+pub(crate) const NO_LABEL: u16 = 65535;
+
+const LAST_LABEL: u16 = 511;
+
+const ALL_LABELS: usize = 512;
+
+const BY_EXPRESSION: u16 = 2;
+
+// What a label's row holds that the passes do not find.
+struct Lent {
+    state: u16,
+    node: u16,
+}
+
+// Finds the first bearer of every label in one walk from the last statement to the first: each statement takes its label from the later ones.
+// What no statement bears keeps the number of statements.
+pub(crate) fn find_bearers(list: &[u16], firsts: &mut [u16])
+    requires { ⌜ rowsOf (now list) ≤ 1024 ⌝ }
+    requires { ⌜ now firsts ≡ replicate 512 (rowsOf (now list)) ⌝ }
+    ensures { λ _. ⌜ now (firsts .exit) ≡ bearersOf (now (list .entry)) ⌝ }
+{
+    let mut i = list.len() / 20;
+    while 0 < i {
+        i -= 1;
+        store_cell(firsts, label_at(list, i) as usize, i as u16);
+    }
+}
+
+// The statement's own label is above 511, or belongs to an earlier one.
+pub(crate) fn is_ill(list: &[u16], firsts: &[u16], i: usize) -> bool
+    requires { ⌜ i < 1024 ⌝ }
+    requires { ⌜ now firsts ≡ bearersOf (now list) ⌝ }
+    ensures { λ r. ⌜ r ≡ illOf (now (list .entry)) i ⌝ }
+{
+    let label = label_at(list, i);
+    let first = cell(firsts, label as usize);
+    (label != NO_LABEL) & ((LAST_LABEL < label) | (first != i as u16))
+}
+
+// Every address is 0, and a label is defined if it is an expression or a statement bears it.
+pub(crate) fn begin(list: &[u16], firsts: &[u16], labels: &[u16], table: &mut [u16])
+    requires { ⌜ now firsts ≡ bearersOf (now list) ⌝ }
+    ensures { λ _. ⌜ now (table .exit) ≡ put (now (table .entry)) 0 (begunTable (now (list .entry)) (now (labels .entry))) ⌝ }
+{
+    let rows = list.len() / 20;
+    let mut k: usize = 0;
+    while k < ALL_LABELS {
+        let borne = (cell(firsts, k) as usize) < rows;
+        begin_row(labels, k, borne, table);
+        k += 1;
+    }
+}
+
+fn begin_row(labels: &[u16], k: usize, borne: bool, table: &mut [u16])
+    requires { ⌜ k < 512 ⌝ }
+    ensures { λ _. ⌜ now (table .exit) ≡ put (now (table .entry)) (k * 3) (rowOf (now (labels .entry)) k borne) ⌝ }
+{
+    let lent = lent_row(labels, k);
+    store_cell(table, k * 3, begun_state(lent.state, borne));
+    store_cell(table, k * 3 + 1, 0);
+    store_cell(table, k * 3 + 2, lent.node);
+}
+
+fn begun_state(state: u16, borne: bool) -> u16
+    ensures { λ r. ⌜ r ≡ stateOf state borne ⌝ }
+{
+    if state == BY_EXPRESSION {
+        return BY_EXPRESSION;
+    }
+    if borne { 1 } else { 0 }
+}
+
+// A row that is not wholly there is undefined.
+fn lent_row(labels: &[u16], k: usize) -> Lent
+    requires { ⌜ k < 512 ⌝ }
+    ensures { λ r. ⌜ r ≡ lentOf (now (labels .entry)) k ⌝ }
+{
+    if labels.len() < k * 3 + 3 {
+        return Lent { state: 0, node: 0 };
+    }
+    Lent {
+        state: labels[k * 3],
+        node: labels[k * 3 + 2],
+    }
+}
+
+// Lays the states and addresses that the passes found over a lent table.
+pub fn store_labels(table: &[u16; 1536], labels: &mut [u16])
+    ensures { λ _. ⌜ now (labels .exit) ≡ laidOver (now (table .entry)) (now (labels .entry)) ⌝ }
+{
+    lay_over(table, labels);
+}
+
+// In the rows that both tables have. The nodes stay as they are.
+fn lay_over(table: &[u16], labels: &mut [u16])
+    ensures { λ _. ⌜ now (labels .exit) ≡ laidOver (now (table .entry)) (now (labels .entry)) ⌝ }
+{
+    let end = lesser(table.len(), labels.len());
+    let mut at: usize = 0;
+    while at + 3 <= end {
+        labels[at] = table[at];
+        labels[at + 1] = table[at + 1];
+        at += 3;
+    }
+}
+
+fn lesser(a: usize, b: usize) -> usize
+    ensures { λ r. ⌜ r ≡ min a b ⌝ }
+{
+    if a < b { a } else { b }
+}
