@@ -25,7 +25,7 @@ same-length c = search needs
 
 returns : tie.Need-returns
 unfolding sizedState
-returns c = (cc, search needs)
+returns c = (c .touch .ensures, search needs)
 
 pub resize-spec : {M : Type 1} → statement M
 resize-spec =

@@ -1,0 +1,13 @@
+pub mod Tallies
+pub mod Turns
+pub mod Fitting
+pub mod Valued
+pub mod Places
+pub mod Texts
+pub mod Rows
+pub mod Settled
+pub mod Endings
+pub mod Lawful
+pub mod Written
+pub mod Made
+pub mod Only

@@ -1,0 +1,25 @@
+-- `assembly::output::Place::next` meets its contract: the test says whether the statement moves.
+-- Assumes nothing.
+use native.Mathlib.Omega.{arith}
+use Rattle.ground.specs.Choice.{pick}
+use Rattle.assembly.specs.Steps.{nextPlace}
+use borrow.Author.Needs.{needs}
+use Rattle.assembly.proofs.output.Place.next.Statement.{statement}
+use Rattle.assembly.proofs.output.Place.next.Tie as tie
+
+cast-t5 : tie.Need-cast-t5
+cast-t5 c = search needs
+
+returns : tie.Need-returns
+unfolding nextPlace pick
+returns c = (rw (c .before .if1 .taken), omega arith)
+
+add-t6 : tie.Need-add-t6
+add-t6 c = search needs
+
+returns-2 : tie.Need-returns-2
+unfolding nextPlace pick
+returns-2 c = (rw (c .before .before .if1 .left), omega arith)
+
+pub next-spec : {M : Type 1} → statement M
+next-spec = tie.close (tie.spec cast-t5 returns add-t6 returns-2)

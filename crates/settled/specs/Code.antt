@@ -1,0 +1,49 @@
+-- A settled list of instructions and bare labels: its operand records, as the passes settled them.
+use Prim.Native.Nat.{ℕ, _%_}
+use mathlib.Core.Bool.{Bool, true, false}
+use mathlib.Core.List.{List, [], _∷_}
+use Rattle.instruction.specs.declared.Record.{Record}
+use Rattle.statements.specs.declared.Statement.{Statement}
+use Rattle.statements.specs.declared.Statement.the-variants.{Label, Instruction, Rmb, Fcb, Fdb, Fcc, Org, Unknown}
+use Rattle.statements.specs.declared.Entry.{Entry}
+use Rattle.statements.specs.Listing.{statementAt, entryAt}
+use Rattle.statements.specs.Asking.{askedOf}
+use Rattle.statements.specs.Effects.{recordOf}
+use Rattle.passes.specs.Labels.{rowsOf}
+use Rattle.passes.specs.Walks.{Source}
+use Rattle.passes.specs.Passes.{Outcome, passedOf}
+use Rattle.assembly.specs.Objects.{addressAt, dirtyAt, gather}
+
+-- an instruction or a bare label
+abbrev pub isCode : Statement → Bool
+isCode Label = true
+isCode (Instruction node) = true
+isCode (Rmb node) = false
+isCode (Fcb first count) = false
+isCode (Fdb first count) = false
+isCode (Fcc first count) = false
+isCode (Org node) = false
+isCode Unknown = false
+
+-- the operand record of an instruction that stands at an address, with the values that its operand has there; a label has none
+abbrev pub recordsOf : Statement → Entry → List ℕ → List ℕ → ℕ → Bool → List Record
+recordsOf Label e ns ls here dirty = []
+recordsOf (Instruction node) e ns ls here dirty = recordOf e (askedOf ns ls node here) dirty ∷ []
+recordsOf (Rmb node) e ns ls here dirty = []
+recordsOf (Fcb first count) e ns ls here dirty = []
+recordsOf (Fdb first count) e ns ls here dirty = []
+recordsOf (Fcc first count) e ns ls here dirty = []
+recordsOf (Org node) e ns ls here dirty = []
+recordsOf Unknown e ns ls here dirty = []
+
+unfoldable pub recordsIn : Source → Outcome → ℕ → List Record
+recordsIn src o i =
+    recordsOf (statementAt (src .list) i) (entryAt (src .list) i) (src .nodes) (o .table) (addressAt src o i % 65536) (dirtyAt src o i)
+
+-- of n statements from i on
+abbrev pub recordsFrom : Source → Outcome → ℕ → ℕ → List Record
+recordsFrom src o n i = gather (λ k. recordsIn src o k) n i
+
+-- of the whole list
+abbrev pub recordsIs : Source → List ℕ → List Record
+recordsIs src ls = recordsFrom src (passedOf src ls) (rowsOf (src .list)) 0

@@ -1,0 +1,49 @@
+-- Demand 3 of a settled list of instructions and bare labels: "the text, read and decoded .. gives the same number of instructions with the same lengths and
+-- meanings in the same order and nothing left over". The meanings are those of the operand records, never taken from bytes.
+use mathlib.Core.Path.{_≡_}
+use mathlib.Core.Bool.{true}
+use mathlib.Core.List.{List, []}
+use Prim.Native.Nat.{ℕ, _<_}
+use lib.ListN.{length}
+use Rattle.expressions.proofs.Every.{Cells}
+use Rattle.expressions.proofs.Fits.{Short}
+use Rattle.records.specs.Text.{close}
+use Rattle.reader.specs.Answers.{runsIn}
+use Rattle.decoder.specs.Origin.{origin}
+use Rattle.decoder.specs.Run.{runOf, refusalIn}
+use Rattle.decoder.proofs.Runs.{lengthsOf}
+use Rattle.laying.specs.Laying.{Bytes, layFrom}
+use Rattle.laying.specs.Exactly.{bytesFrom}
+use Rattle.laying.specs.Meant.{meaningsFrom}
+use Rattle.statements.specs.Listing.{statementAt}
+use Rattle.passes.specs.Labels.{rowsOf}
+use Rattle.passes.specs.Walks.{Source}
+use Rattle.passes.specs.Passes.{passedOf, endedOf}
+use Rattle.assembly.specs.Text.{settledText}
+use Rattle.settled.specs.Code.{isCode, recordsIs}
+
+-- the bytes of the records, laid end to end from 0
+abbrev pub bytesIs : Source → List ℕ → List ℕ
+bytesIs src ls = bytesFrom (recordsIs src ls) 0
+
+pub record ReadsBack (src : Source) (ls : List ℕ) : Type 0 where
+  -- laying the records from 0 accepts them, and gives the same bytes as the passes
+  pub laid : layFrom (recordsIs src ls) 0 65536 ≡ Bytes (bytesIs src ls)
+  -- the text is one run at 0, and none where there is no instruction
+  pub run : runsIn (settledText src ls) ≡ close 0 (bytesIs src ls) []
+  -- "the same lengths and meanings in the same order"
+  pub same : runOf (bytesIs src ls) (origin 0) ≡ meaningsFrom (recordsIs src ls) 0
+  -- "the same number of instructions", none refused, "and nothing left over"
+  pub accepted : refusalIn (runOf (bytesIs src ls) (origin 0)) ≡ 0
+  pub number : length (runOf (bytesIs src ls) (origin 0)) ≡ length (recordsIs src ls)
+  pub whole : lengthsOf (runOf (bytesIs src ls) (origin 0)) ≡ length (bytesIs src ls)
+
+-- of every list that settles with no refusal; every lent table holds numbers of 16 bits
+abbrev pub SettledDemand : Type 0
+SettledDemand =
+    (src : Source) (ls : List ℕ) →
+    ((i : ℕ) → i < rowsOf (src .list) → isCode (statementAt (src .list) i) ≡ true) →
+    endedOf src ls .refusal ≡ 0 →
+    Cells Short (src .nodes) →
+    Cells Short (passedOf src ls .table) →
+    ReadsBack src ls

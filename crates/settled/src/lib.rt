@@ -1,0 +1,1 @@
+// Theorems alone: what a settled list of instructions says once its text is read and decoded.
