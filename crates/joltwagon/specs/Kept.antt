@@ -1,0 +1,60 @@
+-- A kept instruction as a row of 18 cells, and what a build takes anew as one of 6 (docs/ROWS.md).
+use mathlib.Core.Path.{_≡_}
+use Prim.Native.Nat.{ℕ, _<_}
+use mathlib.Core.Bool.{Bool, _&&_}
+use mathlib.Core.List.{List, [], _∷_}
+use lib.Dec.{leb}
+use lib.ListN.{length, getD}
+use Rattle.answers.specs.Sizes.{flagCell}
+use Rattle.instruction.specs.declared.Values.{Values}
+use Rattle.instruction.specs.declared.Instruction.{Instruction}
+use Rattle.entries.specs.Entries.{byteIn, isFlag, flagIn, flaggedIn, operandOf, valueIn}
+
+-- ---- the kept instruction: its operand, its form, its trial mark and its widening
+-- the row is long enough, and its flags are 0 or 1
+unfoldable pub isKept : List ℕ → Bool
+isKept row = leb 18 (length row) && (flaggedIn row && (isFlag row 16 && isFlag row 17))
+
+unfoldable pub keptOf : List ℕ → Instruction
+keptOf row =
+    record { operand = operandOf row; form = byteIn row 15; trial = flagIn row 16; widened = flagIn row 17 }
+
+-- the same row, handed out
+unfoldable pub keptCells : Instruction → List ℕ
+keptCells i =
+    i .operand .operation
+    ∷ i .operand .mode
+    ∷ flagCell (i .operand .indirect)
+    ∷ flagCell (i .operand .forced)
+    ∷ i .operand .step
+    ∷ flagCell (i .operand .widening)
+    ∷ i .operand .count
+    ∷ getD (i .operand .registers) 0 0
+    ∷ getD (i .operand .registers) 1 0
+    ∷ getD (i .operand .registers) 2 0
+    ∷ getD (i .operand .registers) 3 0
+    ∷ getD (i .operand .registers) 4 0
+    ∷ getD (i .operand .registers) 5 0
+    ∷ getD (i .operand .registers) 6 0
+    ∷ getD (i .operand .registers) 7 0
+    ∷ i .form
+    ∷ flagCell (i .trial)
+    ∷ flagCell (i .widened)
+    ∷ []
+
+-- ---- what a build takes anew: the page, and the values
+unfoldable pub isPresent : List ℕ → Bool
+isPresent row = leb 6 (length row) && (isFlag row 0 && isFlag row 1)
+
+unfoldable pub presentOf : List ℕ → Values
+presentOf row = record { given = flagIn row 1; unsigned = valueIn row 2; signed = valueIn row 4 }
+
+-- the numbers of an instruction that some code holds: each of 8 bits, and eight registers
+pub record Small (i : Instruction) : Type 0 where
+  pub operation : i .operand .operation < 256
+  pub mode : i .operand .mode < 256
+  pub step : i .operand .step < 256
+  pub count : i .operand .count < 256
+  pub form : i .form < 256
+  pub eight : length (i .operand .registers) ≡ 8
+  pub registers : (k : ℕ) → getD (i .operand .registers) k 0 < 256
