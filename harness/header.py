@@ -1,0 +1,95 @@
+#!/usr/bin/env python3
+"""Holds include/joltwagon.h to the source: each exported function of crates/joltwagon/src has a prototype of the same
+parameters and return there and the other way round, and each number is that of docs/ROWS.md. Exit status 1 if something differs."""
+import glob
+import os
+import re
+import sys
+
+ROOT = os.path.join(os.path.dirname(os.path.abspath(__file__)), "..")
+TYPES = {"u8": "uint8_t", "u16": "uint16_t", "usize": "size_t"}
+differing = []
+
+
+def read(*names):
+    with open(os.path.join(ROOT, *names)) as file:
+        return file.read()
+
+
+def c_types(parameters):
+    """A slice goes as a pointer and a length."""
+    for parameter in filter(None, (p.strip() for p in parameters.split(","))):
+        kind = parameter.split(":")[1].strip()
+        slice_of = re.fullmatch(r"&(mut )?\[(\w+)\]", kind)
+        if slice_of:
+            yield ("" if slice_of.group(1) else "const ") + TYPES[slice_of.group(2)] + " *"
+            yield "size_t"
+        else:
+            yield TYPES[kind]
+
+
+def exported():
+    found = {}
+    for path in glob.glob(os.path.join(ROOT, "crates/joltwagon/src/*.rt")):
+        with open(path) as file:
+            text = file.read()
+        for name, parameters, back in re.findall(r'#\[no_mangle\]\npub extern "C" fn (\w+)\(([^)]*)\)(?: -> (\w+))?', text):
+            found[name] = (TYPES.get(back, "void"), list(c_types(parameters)))
+    return found
+
+
+def declared(header):
+    found = {}
+    for back, name, parameters in re.findall(r"^(\w+) (jw_\w+)\(([^)]*)\);", header, re.M):
+        kinds = [re.sub(r"\w+$", "", " ".join(p.split())).replace(" * ", " *").rstrip() for p in parameters.split(",")]
+        found[name] = (back, [k if k.endswith("*") else k.strip() for k in kinds])
+    return found
+
+
+def numbered(title):
+    """The table of that title in docs/ROWS.md: name to number."""
+    section = read("docs/ROWS.md").split(f"## {title}\n", 1)[1].split("\n## ", 1)[0]
+    return {name: int(number) for number, name in re.findall(r"^\| (\d+) \| (.*?) \|$", section, re.M)}
+
+
+def constants(header):
+    return {name: int(number) for name, number in re.findall(r"\b(JW_\w+) = (\d+)", header)}
+
+
+header = read("include/joltwagon.h")
+source, prototypes, numbers = exported(), declared(header), constants(header)
+for name in sorted(source.keys() | prototypes.keys()):
+    if source.get(name) != prototypes.get(name):
+        differing.append(f"{name}: {source.get(name)} in the source, {prototypes.get(name)} in the header")
+
+
+def held(title, prefix, rename=lambda name: name):
+    for name, number in numbered(title).items():
+        constant = "JW_" + prefix + rename(name)
+        if numbers.get(constant) != number:
+            differing.append(f"{constant}: {numbers.get(constant)} in the header, {number} in docs/ROWS.md")
+
+
+def shouted(name):
+    """PCRelative is PC_RELATIVE."""
+    return re.sub(r"(?<=[a-z])(?=[A-Z])|(?<=[A-Z])(?=[A-Z][a-z])", "_", name).upper()
+
+
+STEPS = {"none": "NONE", "`,R+`": "INC", "`,R++`": "INC2", "`,-R`": "DEC", "`,--R`": "DEC2"}
+held("Operations", "")
+held("Parser modes", "MODE_", shouted)
+held("Forms", "FORM_", shouted)
+held("Registers", "")
+held("Steps", "STEP_", STEPS.get)
+for name, number in numbered("Meaning kinds").items():
+    if name != "none" and numbers.get("JW_KIND_" + name.upper()) != number:
+        differing.append(f"JW_KIND_{name.upper()}: not {number}")
+refusals = dict(re.findall(r"pub const (\w+): u8 = (\d+);", read("crates/ground/src/refusals.rt")))
+for name, number in refusals.items():
+    if numbers.get("JW_" + name) != int(number):
+        differing.append(f"JW_{name}: {numbers.get('JW_' + name)} in the header, {number} in the source")
+
+for line in differing:
+    print(line)
+print(f"header: {len(source)} functions and {len(numbers)} numbers, {len(differing)} differ")
+sys.exit(1 if differing else 0)

@@ -1,0 +1,270 @@
+/* Calls every function of include/joltwagon.h. Expected answers are document 01's cases, or follow from its rules by hand.
+ * Prints what it compared; its exit status is 0 if nothing differs. */
+#include "../../include/joltwagon.h"
+
+#include <stdio.h>
+#include <string.h>
+
+static int compared, differing;
+
+static void same(const char *what, long got, long wanted)
+{
+    compared++;
+    if (got != wanted) {
+        differing++;
+        printf("%s: %ld, not %ld\n", what, got, wanted);
+    }
+}
+
+static void same_bytes(const char *what, const void *got, const void *wanted, size_t n)
+{
+    compared++;
+    if (memcmp(got, wanted, n) != 0) {
+        differing++;
+        printf("%s: other bytes\n", what);
+    }
+}
+
+enum { UNTOUCHED = 0xBEEF };
+
+static void untouched(const char *what, const uint16_t *cells, size_t n)
+{
+    compared++;
+    for (size_t i = 0; i < n; i++)
+        if (cells[i] != UNTOUCHED) {
+            differing++;
+            printf("%s: cell %zu was changed\n", what, i);
+            return;
+        }
+}
+
+static void fill(uint16_t *cells, size_t n)
+{
+    for (size_t i = 0; i < n; i++)
+        cells[i] = UNTOUCHED;
+}
+
+/* A record with one register, or none (-1), and one value for both evaluations; no value for width 0. */
+static void record_of(uint16_t *r, uint16_t operation, uint16_t mode, int reg, uint16_t number, uint16_t width)
+{
+    memset(r, 0, JW_RECORD_CELLS * sizeof *r);
+    r[JW_OPERATION] = operation;
+    r[JW_MODE] = mode;
+    if (reg >= 0) {
+        r[JW_REGISTER_COUNT] = 1;
+        r[JW_REGISTERS] = (uint16_t)reg;
+    }
+    uint16_t *now = r + JW_RECORD_PRESENT;
+    now[JW_VALUES_GIVEN] = width != 0;
+    now[JW_UNSIGNED] = now[JW_SIGNED] = number;
+    now[JW_UNSIGNED + 1] = now[JW_SIGNED + 1] = width;
+}
+
+/* A build's bytes, and the zeros and the cells behind them. */
+static void built_as(const char *what, const uint16_t *record, uint16_t address, const char *bytes, size_t n)
+{
+    uint16_t answer[JW_BUILT_CELLS + 2];
+    fill(answer, JW_BUILT_CELLS + 2);
+    same(what, jw_assemble(record, JW_RECORD_CELLS, address, answer, JW_BUILT_CELLS + 2), JW_ACCEPTED);
+    same(what, answer[JW_BUILT_LENGTH], (long)n);
+    for (size_t i = 0; i < 5; i++)
+        same(what, answer[JW_BUILT_BYTES + i], i < n ? (uint8_t)bytes[i] : 0);
+    untouched(what, answer + JW_BUILT_CELLS, 2);
+}
+
+static void builds(void)
+{
+    uint16_t r[JW_RECORD_CELLS], answer[JW_BUILT_CELLS];
+    record_of(r, JW_LDA, JW_MODE_OFFSET, JW_X, 0, 8);
+    built_as("LDA 0,X", r, 0, "\xA6\x84", 2);
+    record_of(r, JW_LDA, JW_MODE_OFFSET, JW_Y, 16, 8);
+    built_as("LDA 16,Y", r, 0, "\xA6\xA8\x10", 3);
+    record_of(r, JW_LDA, JW_MODE_OFFSET, JW_S, 128, 16);
+    built_as("LDA 128,S", r, 0, "\xA6\xE9\x00\x80", 4);
+    record_of(r, JW_LDA, JW_MODE_PC_RELATIVE, JW_PC, 0x183, 16);
+    built_as("LDA t,PCR", r, 0x100, "\xA6\x8D\x00\x7F", 4);
+    record_of(r, JW_BRA, JW_MODE_EXTENDED, -1, 0x182, 16);
+    r[JW_WIDENING] = 1;
+    built_as("BRA", r, 0x100, "\x16\x00\x7F", 3);
+    record_of(r, JW_LDA, JW_MODE_EXTENDED, -1, 0xFF, 16);
+    built_as("LDA $FF", r, 0, "\x96\xFF", 2);
+    r[JW_RECORD_PRESENT + JW_PAGE_DIRTY] = 1;
+    built_as("LDA $FF, dirty", r, 0, "\xB6\x00\xFF", 3);
+    record_of(r, JW_TFR, JW_MODE_REGISTER, JW_A, 0, 0);
+    r[JW_REGISTER_COUNT] = 2;
+    r[JW_REGISTERS + 1] = JW_DP;
+    built_as("TFR A,DP", r, 0, "\x1F\x8B", 2);
+    same("TFR A,DP", jw_assemble(r, JW_RECORD_CELLS, 0, answer, JW_BUILT_CELLS), JW_ACCEPTED);
+    same("TFR A,DP dirties", answer[JW_BUILT_DIRTIES], 1);
+}
+
+static void refused(const char *what, const uint16_t *record, size_t cells, size_t room, int refusal)
+{
+    uint16_t answer[JW_BUILT_CELLS];
+    fill(answer, JW_BUILT_CELLS);
+    same(what, jw_assemble(record, cells, 0x100, answer, room), refusal);
+    untouched(what, answer, JW_BUILT_CELLS);
+}
+
+static void refusals(void)
+{
+    uint16_t r[JW_RECORD_CELLS];
+    record_of(r, JW_LDA, JW_MODE_INC_DEC, JW_X, 0, 0);
+    r[JW_STEP] = JW_STEP_INC;
+    r[JW_INDIRECT] = 1;
+    refused("[,X+]", r, JW_RECORD_CELLS, JW_BUILT_CELLS, JW_SINGLE_STEP_INDIRECT);
+    r[JW_INDIRECT] = 2;
+    refused("a flag of 2", r, JW_RECORD_CELLS, JW_BUILT_CELLS, JW_UNKNOWN);
+    r[JW_INDIRECT] = 0;
+    refused("a short record", r, JW_RECORD_CELLS - 1, JW_BUILT_CELLS, JW_UNKNOWN);
+    refused("a short answer", r, JW_RECORD_CELLS, JW_BUILT_CELLS - 1, JW_NO_ROOM);
+    r[JW_OPERATION] = 256 + JW_LDA;
+    refused("an operation above 255", r, JW_RECORD_CELLS, JW_BUILT_CELLS, JW_UNKNOWN);
+    record_of(r, JW_STA, JW_MODE_IMMEDIATE, -1, 1, 8);
+    refused("STA #1", r, JW_RECORD_CELLS, JW_BUILT_CELLS, JW_NO_SUCH_MODE);
+    refused("STA #1 before the answer's length", r, JW_RECORD_CELLS, 0, JW_NO_SUCH_MODE);
+}
+
+/* A kept instruction: Direct on trial becomes Extended, and stays so until it may be Direct again. */
+static void kept(void)
+{
+    uint16_t r[JW_RECORD_CELLS], row[JW_KEPT_CELLS], answer[JW_BUILT_CELLS];
+    uint16_t *now = r + JW_RECORD_PRESENT;
+    record_of(r, JW_LDA, JW_MODE_EXTENDED, -1, 0x20, 16);
+    same("make", jw_make(r, JW_RECORD_CELLS, row, JW_KEPT_CELLS), JW_ACCEPTED);
+    same("made Direct", row[JW_FORM], JW_FORM_DIRECT);
+    same("made on trial", row[JW_TRIAL], 1);
+    now[JW_UNSIGNED] = now[JW_SIGNED] = 0x1234;
+    same("build", jw_build(row, JW_KEPT_CELLS, now, JW_PRESENT_CELLS, 0, answer, JW_BUILT_CELLS), JW_ACCEPTED);
+    same("built Extended", answer[JW_BUILT_BYTES], 0xB6);
+    same("the form", answer[JW_BUILT_KEPT + JW_FORM], JW_FORM_EXTENDED);
+    same("the mark went", answer[JW_BUILT_KEPT + JW_TRIAL], 0);
+    memcpy(row, answer + JW_BUILT_KEPT, sizeof row);
+    now[JW_UNSIGNED] = now[JW_SIGNED] = 0x20;
+    same("build again", jw_build(row, JW_KEPT_CELLS, now, JW_PRESENT_CELLS, 0, answer, JW_BUILT_CELLS), JW_ACCEPTED);
+    same("Direct again", answer[JW_BUILT_BYTES], 0x96);
+    memcpy(row, answer + JW_BUILT_KEPT, sizeof row);
+    now[JW_PAGE_DIRTY] = 1;
+    fill(answer, JW_BUILT_CELLS);
+    same("no trial left", jw_build(row, JW_KEPT_CELLS, now, JW_PRESENT_CELLS, 0, answer, JW_BUILT_CELLS), JW_DIRECT_NOT_ALLOWED);
+    same("a short row", jw_build(row, JW_KEPT_CELLS - 1, now, JW_PRESENT_CELLS, 0, answer, JW_BUILT_CELLS), JW_UNKNOWN);
+    same("short values", jw_build(row, JW_KEPT_CELLS, now, JW_PRESENT_CELLS - 1, 0, answer, JW_BUILT_CELLS), JW_UNKNOWN);
+    untouched("refused builds", answer, JW_BUILT_CELLS);
+    same("a short answer", jw_make(r, JW_RECORD_CELLS, answer, JW_KEPT_CELLS - 1), JW_NO_ROOM);
+    untouched("a short answer", answer, JW_BUILT_CELLS);
+}
+
+static void decoding(void)
+{
+    const uint8_t bytes[] = {0xA6, 0x84, 0x39, 0x34, 0x86};
+    uint16_t answer[JW_READ_CELLS];
+    same("decode", jw_decode(bytes, 5, 0x100, answer, JW_READ_CELLS), JW_ACCEPTED);
+    const uint16_t lda[] = {2, JW_LDA, JW_KIND_OFFSET, 0, 0, 0, JW_X, 0, 0};
+    same_bytes("LDA 0,X", answer, lda, sizeof lda);
+    same("next", jw_next(bytes, 5, 0x100, 3, answer, JW_READ_CELLS), JW_ACCEPTED);
+    const uint16_t pshs[] = {2, JW_PSHS, JW_KIND_PUSH, 0, 0, 1 << JW_A | 1 << JW_B | 1 << JW_PC, 0, 0, 0};
+    same_bytes("PSHS PC,B,A", answer, pshs, sizeof pshs);
+    same("count", jw_count(bytes, 5, 0x100, answer, JW_SIZE_CELLS), JW_ACCEPTED);
+    same("three", (long)jw_size(answer), 3);
+    fill(answer, JW_READ_CELLS);
+    same("cut short", jw_decode(bytes, 1, 0x100, answer, JW_READ_CELLS), JW_CUT_SHORT);
+    same("at the end", jw_next(bytes, 5, 0x100, 5, answer, JW_READ_CELLS), JW_CUT_SHORT);
+    same("undefined", jw_decode((const uint8_t *)"\x01", 1, 0, answer, JW_READ_CELLS), JW_UNDEFINED);
+    same("beyond", jw_count(bytes, 5, 0xFFFC, answer, JW_SIZE_CELLS), JW_BEYOND);
+    same("no room", jw_count(bytes, 5, 0x100, answer, JW_SIZE_CELLS - 1), JW_NO_ROOM);
+    untouched("refused reads", answer, JW_READ_CELLS);
+}
+
+static void evaluating(void)
+{
+    /* 0: the constant -1; 1: label 0; 2: node 0 + node 1 */
+    const uint16_t nodes[] = {0, 0xFFFF, 0, 1, 0, 0, 4, 0, 1};
+    /* label 0 is an address, 0x1000; label 1 is node 0 */
+    uint16_t labels[] = {1, 0x1000, 0, 2, 0x2000, 0};
+    uint16_t answer[JW_NODE_CELLS];
+    same("node", jw_node(nodes, 9, labels, 6, 2, 0, answer, JW_NODE_CELLS), JW_ACCEPTED);
+    const uint16_t sum[] = {0x0FFF, 16, 0x0FFF, 16};
+    same_bytes("0x1000 - 1", answer, sum, sizeof sum);
+    same("label", jw_label(nodes, 9, labels, 6, 1, answer, JW_LABEL_CELLS), JW_ACCEPTED);
+    const uint16_t stored[] = {0xFF, 8};
+    same_bytes("-1 as stored", answer, stored, sizeof stored);
+    fill(answer, JW_NODE_CELLS);
+    same("no such node", jw_node(nodes, 9, labels, 6, 3, 0, answer, JW_NODE_CELLS), JW_TOO_DEEP);
+    same("no such label", jw_label(nodes, 9, labels, 6, 2, answer, JW_LABEL_CELLS), JW_BAD_LABEL);
+    same("no room", jw_label(nodes, 9, labels, 6, 1, answer, 1), JW_NO_ROOM);
+    untouched("refused values", answer, JW_NODE_CELLS);
+    jw_move_labels(labels, 6, 0x1000, 0x1000, 0xFFFF);
+    same("moved", labels[1], 0x0FFF);
+    same("outside the range", labels[4], 0x2000);
+}
+
+static void segments(void)
+{
+    uint16_t table[JW_SEGMENTS_CELLS] = {0}, answer[JW_SEGMENT_CELLS];
+    same("add", jw_add_segment(table, JW_SEGMENTS_CELLS, 0x4000), JW_ACCEPTED);
+    same("add below", jw_add_segment(table, JW_SEGMENTS_CELLS, 0x1000), JW_ACCEPTED);
+    same("0 is free", jw_add_segment(table, JW_SEGMENTS_CELLS, 0), JW_ACCEPTED);
+    const uint16_t two[] = {2, 0x1000, 0x4000};
+    same_bytes("two starts", table, two, sizeof two);
+    same("repeated", jw_add_segment(table, JW_SEGMENTS_CELLS, 0x4000), JW_SEGMENT_REPEATED);
+    same("a full table", jw_add_segment(table, 3, 0x5000), JW_NO_ROOM);
+    same("no table", jw_add_segment(table, 0, 0x5000), JW_UNKNOWN);
+    same_bytes("two starts still", table, two, sizeof two);
+    same("segment", jw_segment_of(table, JW_SEGMENTS_CELLS, 0x1234, answer, JW_SEGMENT_CELLS), JW_ACCEPTED);
+    same("from", answer[0], 0x1000);
+    same("to", answer[1], 0x3FFF);
+    for (uint16_t start = 1; table[0] < 63; start++)
+        same("up to 64", jw_add_segment(table, JW_SEGMENTS_CELLS, start), JW_ACCEPTED);
+    same("a 65th", jw_add_segment(table, JW_SEGMENTS_CELLS, 0x5000), JW_OVER_LIMIT);
+    fill(answer, JW_SEGMENT_CELLS);
+    same("no table", jw_segment_of(table, 0, 0, answer, JW_SEGMENT_CELLS), JW_UNKNOWN);
+    same("no room", jw_segment_of(table, JW_SEGMENTS_CELLS, 0, answer, 1), JW_NO_ROOM);
+    untouched("refused segments", answer, JW_SEGMENT_CELLS);
+}
+
+static void texts(void)
+{
+    static const char wanted[] = ":03010000A6843999\n:00000001FF\n";
+    const uint16_t objects[] = {1, 0x100, 2}, values[] = {0xA684, 16, 0x39, 8};
+    uint16_t answer[JW_TEXT_CELLS], runs[2];
+    uint8_t text[64], bytes[4] = {0x55, 0x55, 0x55, 0x55};
+    size_t n = sizeof wanted - 1;
+    same("size", jw_text_size(objects, 3, values, 4, answer, JW_SIZE_CELLS), JW_ACCEPTED);
+    same("its length", (long)jw_size(answer), (long)n);
+    memset(text, 'x', sizeof text);
+    same("no room", jw_write_text(objects, 3, values, 4, text, n - 1, answer, JW_SIZE_CELLS), JW_NO_ROOM);
+    same("no cells", jw_write_text(objects, 3, values, 4, text, n, answer, JW_SIZE_CELLS - 1), JW_NO_ROOM);
+    same("a wrong width before no cells", jw_write_text(objects, 3, values, 3, text, n, answer, 0), JW_UNKNOWN);
+    same("nothing was written", text[0], 'x');
+    same("write", jw_write_text(objects, 3, values, 4, text, sizeof text, answer, JW_SIZE_CELLS), JW_ACCEPTED);
+    same("its length again", (long)jw_size(answer), (long)n);
+    same_bytes("the text", text, wanted, n);
+    same("what follows", text[n], 'x');
+    fill(answer, JW_TEXT_CELLS);
+    runs[0] = runs[1] = UNTOUCHED;
+    same("no room for bytes", jw_read_text(text, n, bytes, 2, runs, 2, answer, JW_TEXT_CELLS), JW_NO_ROOM);
+    same("no cells", jw_read_text(text, n, bytes, 4, runs, 2, answer, JW_TEXT_CELLS - 1), JW_NO_ROOM);
+    same("a broken text before no cells", jw_read_text(text, n - 2, bytes, 4, runs, 2, answer, 0), JW_BROKEN_TEXT);
+    untouched("refused texts", answer, JW_TEXT_CELLS);
+    untouched("refused texts", runs, 2);
+    same("bytes as they were", bytes[0], 0x55);
+    same("read", jw_read_text(text, n, bytes, 4, runs, 2, answer, JW_TEXT_CELLS), JW_ACCEPTED);
+    same("three bytes", (long)jw_size(answer), 3);
+    same("one run", (long)jw_size(answer + JW_SIZE_CELLS), 1);
+    same_bytes("the bytes", bytes, "\xA6\x84\x39\x55", 4);
+    same("first", runs[0], 0x100);
+    same("last", runs[1], 0x102);
+}
+
+int main(void)
+{
+    builds();
+    refusals();
+    kept();
+    decoding();
+    evaluating();
+    segments();
+    texts();
+    printf("C: %d compared, %d differ\n", compared, differing);
+    return differing != 0;
+}
