@@ -1,6 +1,6 @@
 #!/usr/bin/env python3
-"""Holds include/joltwagon.h to the source: each exported function of crates/joltwagon/src has a prototype of the same
-parameters and return there and the other way round, and each number is that of docs/ROWS.md. Exit status 1 if something differs."""
+"""Holds include/joltwagon.h and rust/joltwagon to the source: each exported function of crates/joltwagon/src has a prototype of the same
+parameters and return in both and the other way round, and each number is that of docs/ROWS.md. Exit status 1 if something differs."""
 import glob
 import os
 import re
@@ -46,6 +46,20 @@ def declared(header):
     return found
 
 
+def bound():
+    """The declarations of the Rust crate."""
+    back = {"u8": "uint8_t", "": "void"}
+    found = {}
+    for name, parameters, result in re.findall(r"pub fn (jw_\w+)\(([^)]*)\)(?: -> (\w+))?;", read("rust/joltwagon/src/raw.rs")):
+        kinds = []
+        for parameter in parameters.split(", "):
+            kind = parameter.split(": ")[1]
+            pointer = re.fullmatch(r"\*(const|mut) (\w+)", kind)
+            kinds.append(("const " if pointer.group(1) == "const" else "") + TYPES[pointer.group(2)] + " *" if pointer else TYPES[kind])
+        found[name] = (back[result], kinds)
+    return found
+
+
 def numbered(title):
     """The table of that title in docs/ROWS.md: name to number."""
     section = read("docs/ROWS.md").split(f"## {title}\n", 1)[1].split("\n## ", 1)[0]
@@ -58,9 +72,10 @@ def constants(header):
 
 header = read("include/joltwagon.h")
 source, prototypes, numbers = exported(), declared(header), constants(header)
-for name in sorted(source.keys() | prototypes.keys()):
-    if source.get(name) != prototypes.get(name):
-        differing.append(f"{name}: {source.get(name)} in the source, {prototypes.get(name)} in the header")
+for where, found in (("the header", prototypes), ("the Rust crate", bound())):
+    for name in sorted(source.keys() | found.keys()):
+        if source.get(name) != found.get(name):
+            differing.append(f"{name}: {source.get(name)} in the source, {found.get(name)} in {where}")
 
 
 def held(title, prefix, rename=lambda name: name):
@@ -77,6 +92,9 @@ def shouted(name):
 
 STEPS = {"none": "NONE", "`,R+`": "INC", "`,R++`": "INC2", "`,-R`": "DEC", "`,--R`": "DEC2"}
 held("Operations", "")
+operations = {name: int(n) for name, n in re.findall(r'\("(\w+)", (\d+)\)', read("rust/joltwagon/src/operations.rs"))}
+if operations != numbered("Operations"):
+    differing.append("the Rust crate's operations are not those of docs/ROWS.md")
 held("Parser modes", "MODE_", shouted)
 held("Forms", "FORM_", shouted)
 held("Registers", "")

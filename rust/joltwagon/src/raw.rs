@@ -1,0 +1,110 @@
+//! The exported functions (include/joltwagon.h), each behind a safe call. A Rust slice is what they ask for: its pointer is valid, aligned and not
+//! null, its length is true, and a `&mut` slice overlaps no other. Everything else they check themselves.
+use crate::{Refused, Result};
+
+/// The cells of each layout (docs/ROWS.md).
+pub const RECORD: usize = 21;
+pub const PRESENT: usize = 6;
+pub const KEPT: usize = 18;
+pub const BUILT: usize = 25;
+pub const READ: usize = 9;
+
+mod c {
+    extern "C" {
+        pub fn jw_make(record: *const u16, record_len: usize, answer: *mut u16, answer_len: usize) -> u8;
+        pub fn jw_assemble(record: *const u16, record_len: usize, address: u16, answer: *mut u16, answer_len: usize) -> u8;
+        pub fn jw_build(kept: *const u16, kept_len: usize, present: *const u16, present_len: usize, address: u16, answer: *mut u16, answer_len: usize) -> u8;
+        pub fn jw_decode(bytes: *const u8, bytes_len: usize, address: u16, answer: *mut u16, answer_len: usize) -> u8;
+        pub fn jw_next(bytes: *const u8, bytes_len: usize, address: u16, at: usize, answer: *mut u16, answer_len: usize) -> u8;
+        pub fn jw_count(bytes: *const u8, bytes_len: usize, address: u16, answer: *mut u16, answer_len: usize) -> u8;
+        pub fn jw_node(nodes: *const u16, nodes_len: usize, labels: *const u16, labels_len: usize, node: u16, location: u16, answer: *mut u16, answer_len: usize) -> u8;
+        pub fn jw_label(nodes: *const u16, nodes_len: usize, labels: *const u16, labels_len: usize, label: u16, answer: *mut u16, answer_len: usize) -> u8;
+        pub fn jw_move_labels(labels: *mut u16, labels_len: usize, left: u16, right: u16, by: u16);
+        pub fn jw_add_segment(segments: *mut u16, segments_len: usize, start: u16) -> u8;
+        pub fn jw_segment_of(segments: *const u16, segments_len: usize, address: u16, answer: *mut u16, answer_len: usize) -> u8;
+        pub fn jw_text_size(objects: *const u16, objects_len: usize, values: *const u16, values_len: usize, answer: *mut u16, answer_len: usize) -> u8;
+        pub fn jw_write_text(objects: *const u16, objects_len: usize, values: *const u16, values_len: usize, out: *mut u8, out_len: usize, answer: *mut u16, answer_len: usize) -> u8;
+        pub fn jw_read_text(text: *const u8, text_len: usize, bytes: *mut u8, bytes_len: usize, runs: *mut u16, runs_len: usize, answer: *mut u16, answer_len: usize) -> u8;
+    }
+}
+
+/// A call that answers in `N` cells.
+fn asked<const N: usize>(call: impl FnOnce(*mut u16, usize) -> u8) -> Result<[u16; N]> {
+    let mut answer = [0; N];
+    match call(answer.as_mut_ptr(), N) {
+        0 => Ok(answer),
+        number => Err(Refused(number)),
+    }
+}
+
+/// A size: four cells, the lowest first. What it counts is in memory, so it fits.
+fn size(cells: &[u16]) -> usize {
+    cells.iter().rev().fold(0, |n, &cell| n << 16 | cell as usize)
+}
+
+pub fn make(record: &[u16]) -> Result<[u16; KEPT]> {
+    asked(|p, n| unsafe { c::jw_make(record.as_ptr(), record.len(), p, n) })
+}
+
+pub fn assemble(record: &[u16], address: u16) -> Result<[u16; BUILT]> {
+    asked(|p, n| unsafe { c::jw_assemble(record.as_ptr(), record.len(), address, p, n) })
+}
+
+pub fn build(kept: &[u16], present: &[u16], address: u16) -> Result<[u16; BUILT]> {
+    asked(|p, n| unsafe { c::jw_build(kept.as_ptr(), kept.len(), present.as_ptr(), present.len(), address, p, n) })
+}
+
+pub fn decode(bytes: &[u8], address: u16) -> Result<[u16; READ]> {
+    asked(|p, n| unsafe { c::jw_decode(bytes.as_ptr(), bytes.len(), address, p, n) })
+}
+
+pub fn next(bytes: &[u8], address: u16, at: usize) -> Result<[u16; READ]> {
+    asked(|p, n| unsafe { c::jw_next(bytes.as_ptr(), bytes.len(), address, at, p, n) })
+}
+
+pub fn count(bytes: &[u8], address: u16) -> Result<usize> {
+    asked::<4>(|p, n| unsafe { c::jw_count(bytes.as_ptr(), bytes.len(), address, p, n) }).map(|cells| size(&cells))
+}
+
+pub fn node(nodes: &[u16], labels: &[u16], node: u16, location: u16) -> Result<[u16; 4]> {
+    asked(|p, n| unsafe { c::jw_node(nodes.as_ptr(), nodes.len(), labels.as_ptr(), labels.len(), node, location, p, n) })
+}
+
+pub fn label(nodes: &[u16], labels: &[u16], label: u16) -> Result<[u16; 2]> {
+    asked(|p, n| unsafe { c::jw_label(nodes.as_ptr(), nodes.len(), labels.as_ptr(), labels.len(), label, p, n) })
+}
+
+pub fn move_labels(labels: &mut [u16], left: u16, right: u16, by: u16) {
+    unsafe { c::jw_move_labels(labels.as_mut_ptr(), labels.len(), left, right, by) }
+}
+
+pub fn add_segment(segments: &mut [u16], start: u16) -> Result<()> {
+    match unsafe { c::jw_add_segment(segments.as_mut_ptr(), segments.len(), start) } {
+        0 => Ok(()),
+        number => Err(Refused(number)),
+    }
+}
+
+pub fn segment_of(segments: &[u16], address: u16) -> Result<[u16; 2]> {
+    asked(|p, n| unsafe { c::jw_segment_of(segments.as_ptr(), segments.len(), address, p, n) })
+}
+
+pub fn text_size(objects: &[u16], values: &[u16]) -> Result<usize> {
+    asked::<4>(|p, n| unsafe { c::jw_text_size(objects.as_ptr(), objects.len(), values.as_ptr(), values.len(), p, n) }).map(|cells| size(&cells))
+}
+
+/// The length of the text that now stands at the front of `out`.
+pub fn write_text(objects: &[u16], values: &[u16], out: &mut [u8]) -> Result<usize> {
+    let cells = asked::<4>(|p, n| unsafe {
+        c::jw_write_text(objects.as_ptr(), objects.len(), values.as_ptr(), values.len(), out.as_mut_ptr(), out.len(), p, n)
+    })?;
+    Ok(size(&cells))
+}
+
+/// How many bytes and how many runs now stand at the fronts of the two.
+pub fn read_text(text: &[u8], bytes: &mut [u8], runs: &mut [u16]) -> Result<(usize, usize)> {
+    let cells = asked::<8>(|p, n| unsafe {
+        c::jw_read_text(text.as_ptr(), text.len(), bytes.as_mut_ptr(), bytes.len(), runs.as_mut_ptr(), runs.len(), p, n)
+    })?;
+    Ok((size(&cells[..4]), size(&cells[4..])))
+}

@@ -1,0 +1,118 @@
+//! What the old tool does with `obj.rs` and `program.rs`, done with this crate. Expected bytes and texts are document 01's, or follow from its rules.
+use joltwagon::*;
+
+fn operand(mode: Mode, value: Option<NodeId>) -> OperandDescriptor {
+    OperandDescriptor { value, ..OperandDescriptor::new(mode) }
+}
+
+fn named(name: &str) -> Operation {
+    Operation::named(name).unwrap()
+}
+
+fn built(name: &str, od: &OperandDescriptor, addr: u16, labels: &ProgramLabels) -> Result<Vec<u8>> {
+    let mut instruction = Instruction::try_new(named(name), od, addr, labels, false, true)?;
+    instruction.build(addr, labels, false).map(<[u8]>::to_vec)
+}
+
+#[test]
+fn document_cases() {
+    let mut labels = ProgramLabels::new();
+    let mut offset = |register, number| {
+        let value = Some(labels.node(Node::Constant(number)));
+        OperandDescriptor { regs: vec![register], ..operand(Mode::Offset, value) }
+    };
+    let cases = [
+        (offset(Register::X, 0), vec![0xA6, 0x84]),
+        (offset(Register::Y, 15), vec![0xA6, 0x2F]),
+        (offset(Register::Y, 16), vec![0xA6, 0xA8, 0x10]),
+        (offset(Register::U, 0xFFF0), vec![0xA6, 0x50]),
+        (offset(Register::U, 0xFFEF), vec![0xA6, 0xC8, 0xEF]),
+        (offset(Register::S, 128), vec![0xA6, 0xE9, 0x00, 0x80]),
+    ];
+    for (od, bytes) in cases {
+        assert_eq!(built("LDA", &od, 0, &labels), Ok(bytes));
+    }
+    let step = OperandDescriptor { regs: vec![Register::X], incdec: Some(Step::Inc), indirect: true, ..operand(Mode::IncDec, None) };
+    assert_eq!(built("LDA", &step, 0, &labels), Err(Refused(5)));
+}
+
+#[test]
+fn a_branch_is_widened_and_stays_so() {
+    let mut labels = ProgramLabels::new();
+    let od = operand(Mode::Extended, Some(labels.node(Node::Label("there"))));
+    labels.new_definition("there", 0x181, None).unwrap();
+    let mut bra = Instruction::try_new(named("BRA"), &od, 0x100, &labels, false, true).unwrap();
+    assert_eq!(bra.build(0x100, &labels, false), Ok(&[0x20, 0x7F][..]));
+    assert_eq!(labels.set_address("there", 0x182), Ok(0x181));
+    assert_eq!(bra.build(0x100, &labels, false), Ok(&[0x16, 0x00, 0x7F][..]));
+    assert_eq!(labels.set_address("there", 0x181), Ok(0x182));
+    assert_eq!(bra.build(0x100, &labels, false), Ok(&[0x16, 0x00, 0x7E][..]));
+    assert_eq!(bra.current_size(), 3);
+    let mut short = Instruction::try_new(named("BRA"), &od, 0x200, &labels, false, false).unwrap();
+    assert_eq!(short.build(0x200, &labels, false), Err(Refused(8)));
+}
+
+#[test]
+fn refusals_in_order() {
+    let mut labels = ProgramLabels::new();
+    let circle = labels.node(Node::Label("circle"));
+    labels.new_definition("circle", 0, Some(circle)).unwrap();
+    assert_eq!(labels.new_definition("circle", 1, None), Err(Refused(10)));
+    assert_eq!(built("STA", &operand(Mode::Immediate, Some(circle)), 0, &labels), Err(Refused(2)));
+    assert_eq!(built("LDA", &operand(Mode::Immediate, Some(circle)), 0, &labels), Err(Refused(11)));
+    assert_eq!(built("LDA", &operand(Mode::Immediate, None), 0, &labels), Err(Refused(3)));
+    let unknown = labels.node(Node::Label("nowhere"));
+    assert_eq!(built("LDA", &operand(Mode::Immediate, Some(unknown)), 0, &labels), Err(Refused(10)));
+    assert_eq!(labels.get_value("nowhere"), Err(Refused(10)));
+    assert_eq!(Refused(5).to_string(), "refused 5: single step made indirect");
+}
+
+#[test]
+fn labels_and_segments() {
+    let mut labels = ProgramLabels::new();
+    let minus_one = labels.node(Node::Constant(0xFFFF));
+    labels.new_definition("minus", 0, Some(minus_one)).unwrap();
+    assert_eq!(labels.get_value("minus"), Ok(Value { number: 0xFF, width: 8 }));
+    labels.new_definition("start", 0x1000, None).unwrap();
+    labels.new_definition("end", 0x2000, None).unwrap();
+    labels.adjust_label_addresses((0x1000, 0x1FFF), -1);
+    assert_eq!(labels.get_value("start"), Ok(Value { number: 0x0FFF, width: 16 }));
+    assert_eq!(labels.get_value("end"), Ok(Value { number: 0x2000, width: 16 }));
+    let here = labels.node(Node::Location);
+    let start = labels.node(Node::Label("start"));
+    let far = labels.node(Node::Difference(here, start));
+    let wide = Value { number: 0xF001, width: 16 };
+    assert_eq!(labels.eval(far, 0), Ok((wide, wide)));
+
+    let mut segments = ProgramSegments::new();
+    assert_eq!(segments.segment_containing_address(0x1234), (0, 0xFFFF));
+    segments.add(0x4000).unwrap();
+    segments.add(0x1000).unwrap();
+    segments.add(0).unwrap();
+    assert_eq!(segments.add(0x4000), Err(Refused(12)));
+    assert_eq!(segments.segment_containing_address(0x1234), (0x1000, 0x3FFF));
+}
+
+#[test]
+fn text_there_and_back() {
+    let code = BinaryObject { addr: 0x100, data: Some(vec![0xA6, 0x84, 0x39]) };
+    let space = BinaryObject { addr: 0x103, data: None };
+    let more = BinaryObject { addr: 0x200, data: Some((0..40).collect()) };
+    assert_eq!(write_hex(&[code.clone()]).unwrap(), ":03010000A6843999\n:00000001FF\n");
+    let text = write_hex(&[code, space, more]).unwrap();
+    let runs = read_hex(text.as_bytes()).unwrap();
+    assert_eq!(runs, [Run { addr: 0x100, bytes: vec![0xA6, 0x84, 0x39] }, Run { addr: 0x200, bytes: (0..40).collect() }]);
+    let meant: Vec<_> = run(&runs[0].bytes, runs[0].addr).collect::<Result<_>>().unwrap();
+    let offset = Kind::Offset { register: Register::X, indirect: false, offset: 0 };
+    assert_eq!(meant[0], Decoded { length: 2, operation: named("LDA"), kind: offset });
+    assert_eq!(meant[1], Decoded { length: 1, operation: named("RTS"), kind: Kind::Inherent });
+    assert_eq!(raw::count(&runs[0].bytes, 0x100), Ok(2));
+    assert_eq!(decode(&[0x34, 0x86], 0), Ok(Decoded { length: 2, operation: named("PSHS"), kind: Kind::Push(vec![Register::A, Register::B, Register::PC]) }));
+    assert_eq!(write_hex(&[]).unwrap(), ":00000001FF\n");
+    assert_eq!(read_hex(b":00000001FF").unwrap(), []);
+    assert_eq!(read_hex(b"nothing"), Err(Refused(16)));
+    let all = BinaryObject { addr: 0, data: Some(vec![0; 65536]) };
+    assert_eq!(read_hex(write_hex(&[all]).unwrap().as_bytes()).unwrap()[0].bytes.len(), 65536);
+    let beyond = BinaryObject { addr: 1, data: Some(vec![0; 65536]) };
+    assert_eq!(write_hex(&[beyond]).err(), Some(Refused(18)));
+}
