@@ -1,0 +1,115 @@
+//! The records that both sides build: a plain mix of a firmware's instructions, each accepted by both.
+use coco::instructions::{self, AddressingMode, Descriptor};
+use coco::parse::{IncDecType, OperandDescriptor, Token, TokenType, ValueNode};
+use coco::u8u16;
+use joltwagon::Operation;
+
+const A: u16 = 0;
+const B: u16 = 1;
+const X: u16 = 3;
+const Y: u16 = 4;
+const U: u16 = 5;
+const S: u16 = 6;
+const PC: u16 = 7;
+const NAMES: [&str; 10] = ["A", "B", "D", "X", "Y", "U", "S", "PC", "CC", "DP"];
+
+const REGISTER: u16 = 0;
+const OFFSET: u16 = 1;
+const PC_RELATIVE: u16 = 2;
+const INC_DEC: u16 = 3;
+const EXTENDED: u16 = 4;
+const IMMEDIATE: u16 = 6;
+const INHERENT: u16 = 7;
+
+/// Name, mode, indirect, step, registers, and a number with its width (0 for none).
+type Line = (&'static str, u16, bool, u16, &'static [u16], u16, u16);
+
+const MIX: [Line; 24] = [
+    ("LDA", IMMEDIATE, false, 0, &[], 0x05, 8),
+    ("LDX", IMMEDIATE, false, 0, &[], 0x1234, 16),
+    ("LDA", EXTENDED, false, 0, &[], 0x20, 8),
+    ("STA", EXTENDED, false, 0, &[], 0x4000, 16),
+    ("LDB", OFFSET, false, 0, &[X], 5, 8),
+    ("STD", OFFSET, false, 0, &[Y], 0, 8),
+    ("LDD", OFFSET, false, 0, &[U], 100, 8),
+    ("LEAX", OFFSET, false, 0, &[S], 0x0300, 16),
+    ("LDA", INC_DEC, false, 1, &[X], 0, 0),
+    ("STB", INC_DEC, false, 2, &[Y], 0, 0),
+    ("LDX", INC_DEC, true, 2, &[U], 0, 0),
+    ("ADDD", EXTENDED, true, 0, &[], 0xC000, 16),
+    ("LDA", REGISTER, false, 0, &[B, X], 0, 0),
+    ("LEAY", PC_RELATIVE, false, 0, &[PC], 0x0140, 16),
+    ("PSHS", REGISTER, false, 0, &[A, B, X], 0, 0),
+    ("PULS", REGISTER, false, 0, &[A, B, X, PC], 0, 0),
+    ("TFR", REGISTER, false, 0, &[X, Y], 0, 0),
+    ("BNE", EXTENDED, false, 0, &[], 0x0110, 16),
+    ("LBSR", EXTENDED, false, 0, &[], 0x2000, 16),
+    ("JSR", EXTENDED, false, 0, &[], 0xC100, 16),
+    ("CMPX", IMMEDIATE, false, 0, &[], 0x1000, 16),
+    ("CLRA", INHERENT, false, 0, &[], 0, 0),
+    ("INC", EXTENDED, false, 0, &[], 0x0123, 16),
+    ("RTS", INHERENT, false, 0, &[], 0, 0),
+];
+
+/// Where every instruction is built.
+pub const ADDRESS: u16 = 0x0100;
+
+pub const HOW_MANY: usize = 960;
+
+pub fn all() -> impl Iterator<Item = &'static Line> {
+    MIX.iter().cycle().take(HOW_MANY)
+}
+
+/// Rows of document 01's records (docs/ROWS.md), and for each the node of its value in a table of nodes, if it has one.
+pub struct Ours {
+    pub rows: Vec<[u16; 21]>,
+    pub nodes: Vec<u16>,
+    pub node: Vec<Option<u16>>,
+}
+
+pub fn ours() -> Ours {
+    let mut made = Ours { rows: Vec::new(), nodes: Vec::new(), node: Vec::new() };
+    for &(name, mode, indirect, step, registers, number, width) in all() {
+        let mut row = [0; 21];
+        row[..7].copy_from_slice(&[Operation::named(name).unwrap().0, mode, indirect as u16, 0, step, 1, registers.len() as u16]);
+        row[7..7 + registers.len()].copy_from_slice(registers);
+        made.node.push((width != 0).then_some((made.nodes.len() / 3) as u16));
+        if width != 0 {
+            row[16..].copy_from_slice(&[1, number, width, number, width]);
+            made.nodes.extend([0, number, 0]);
+        }
+        made.rows.push(row);
+    }
+    made
+}
+
+fn mode_of(mode: u16) -> AddressingMode {
+    match mode {
+        REGISTER => AddressingMode::Register,
+        OFFSET => AddressingMode::Offset,
+        PC_RELATIVE => AddressingMode::PCRelative,
+        INC_DEC => AddressingMode::IncDec,
+        EXTENDED => AddressingMode::Extended,
+        IMMEDIATE => AddressingMode::Immediate,
+        _ => AddressingMode::Inherent,
+    }
+}
+
+pub fn theirs() -> Vec<(&'static Descriptor, OperandDescriptor)> {
+    instructions::init();
+    let make = |&(name, mode, indirect, step, registers, number, width): &Line| {
+        let mut od = OperandDescriptor::new();
+        od.mode = mode_of(mode);
+        od.indirect = indirect;
+        od.incdec = match step {
+            1 => Some(IncDecType::Inc),
+            2 => Some(IncDecType::IncInc),
+            _ => None,
+        };
+        od.regs = (!registers.is_empty()).then(|| registers.iter().map(|&r| NAMES[r as usize].to_string()).collect());
+        let value = if width == 8 { u8u16::u8(number as u8) } else { u8u16::u16(number) };
+        od.value = (width != 0).then(|| ValueNode::new(Token::new(TokenType::Number, number.to_string(), Some(value)), false, None, None));
+        (instructions::name_to_descriptor(name).unwrap(), od)
+    };
+    all().map(make).collect()
+}
