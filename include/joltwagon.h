@@ -209,6 +209,11 @@ uint8_t jw_assemble(const uint16_t *record, size_t record_len, uint16_t address,
 uint8_t jw_build(const uint16_t *kept, size_t kept_len, const uint16_t *present, size_t present_len, uint16_t address,
                  uint16_t *answer, size_t answer_len);
 
+/* Lays a list of records, rows of JW_RECORD_CELLS, fresh and end to end from an address on, into the front of `out`: the answer is how
+ * many bytes, a size. At most 1,024 rows. */
+uint8_t jw_lay(const uint16_t *list, size_t list_len, uint16_t address, uint8_t *out, size_t out_len, uint16_t *answer,
+               size_t answer_len);
+
 /* ---- decoding ---- */
 
 /* The instruction at the front of bytes that stand from an address on. */

@@ -154,6 +154,28 @@ static void kept(void)
     untouched("a short answer", answer, JW_BUILT_CELLS);
 }
 
+/* Two records end to end: LDA 0,X and BRA to the first. */
+static void laying(void)
+{
+    uint16_t list[2 * JW_RECORD_CELLS], answer[JW_SIZE_CELLS];
+    uint8_t out[8];
+    memset(out, 0x55, sizeof out);
+    record_of(list, JW_LDA, JW_MODE_OFFSET, JW_X, 0, 8);
+    record_of(list + JW_RECORD_CELLS, JW_BRA, JW_MODE_EXTENDED, -1, 0x100, 16);
+    same("lay", jw_lay(list, 2 * JW_RECORD_CELLS, 0x100, out, sizeof out, answer, JW_SIZE_CELLS), JW_ACCEPTED);
+    same("four bytes", (long)jw_size(answer), 4);
+    same_bytes("laid", out, "\xA6\x84\x20\xFC\x55\x55\x55\x55", 8);
+    memset(out, 0x55, sizeof out);
+    fill(answer, JW_SIZE_CELLS);
+    same("too far", jw_lay(list, 2 * JW_RECORD_CELLS, 0x200, out, sizeof out, answer, JW_SIZE_CELLS), JW_BRANCH_TOO_FAR);
+    same("too far before no cells", jw_lay(list, 2 * JW_RECORD_CELLS, 0x200, out, sizeof out, answer, 0), JW_BRANCH_TOO_FAR);
+    same("no room", jw_lay(list, 2 * JW_RECORD_CELLS, 0x100, out, 3, answer, JW_SIZE_CELLS), JW_NO_ROOM);
+    same("no cells", jw_lay(list, 2 * JW_RECORD_CELLS, 0x100, out, sizeof out, answer, JW_SIZE_CELLS - 1), JW_NO_ROOM);
+    same("beyond", jw_lay(list, JW_RECORD_CELLS, 0xFFFF, out, sizeof out, answer, JW_SIZE_CELLS), JW_BEYOND);
+    same_bytes("nothing was laid", out, "\x55\x55\x55\x55\x55\x55\x55\x55", 8);
+    untouched("refused lists", answer, JW_SIZE_CELLS);
+}
+
 static void decoding(void)
 {
     const uint8_t bytes[] = {0xA6, 0x84, 0x39, 0x34, 0x86};
@@ -261,6 +283,7 @@ int main(void)
     builds();
     refusals();
     kept();
+    laying();
     decoding();
     evaluating();
     segments();

@@ -18,6 +18,10 @@ said n cells = record { refusal = n; cells = cells }
 unfoldable pub refusalOf : Said → (room : ℕ) → ℕ
 refusalOf s room = pick (eqb (s .refusal) 0) (pick (ltb room (length (s .cells))) noRoom 0) (s .refusal)
 
--- the cells at the slice's front, and the rest as it was; all of it as it was beside a refusal
+-- what a lent x holds after a call with the slice d for its answer: what it comes to, and x as it was beside a refusal
+unfoldable pub lentAfter : Said → (d new x : List ℕ) → List ℕ
+lentAfter s d new x = pick (eqb (refusalOf s (length d)) 0) new x
+
+-- the slice itself: the cells at its front, and the rest as it was
 unfoldable pub cellsAfter : Said → List ℕ → List ℕ
-cellsAfter s d = pick (eqb (refusalOf s (length d)) 0) (s .cells ++ drop (length (s .cells)) d) d
+cellsAfter s d = lentAfter s d (s .cells ++ drop (length (s .cells)) d) d

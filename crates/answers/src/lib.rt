@@ -7,6 +7,7 @@ ghost use lib.ListN.{length};
 ghost use Rattle.ground.specs.Stores.{put};
 ghost use Rattle.answers.specs.Said.{said, refusalOf, cellsAfter};
 ghost use Rattle.answers.specs.Sizes.{sizeCells, flagCell};
+ghost use Rattle.answers.specs.Steps.{lateOf};
 
 // The refusal, if there is one; 9 where the slice is too short; else the cells stand at its front. A refusal leaves the slice as it was.
 pub fn hand(refusal: u8, cells: &[u16], answer: &mut [u16]) -> u8
@@ -38,6 +39,13 @@ pub fn hand_both(refusal: u8, first: &[u16], second: &[u16], answer: &mut [u16])
     store_cells(first, answer, 0);
     store_cells(second, answer, seam);
     0
+}
+
+// The refusal of a call whose answer has too few cells: its own, and 9 where it has none.
+pub fn late(refusal: u8) -> u8
+    ensures { λ r. ⌜ r ≡ lateOf refusal ⌝ }
+{
+    if refusal != 0 { refusal } else { NO_ROOM }
 }
 
 // Stores cells from a place on, where there is room for them.

@@ -1,7 +1,7 @@
 pub mod Spoken
-pub mod Late
 pub mod Writing
 pub mod Reading
+pub mod Laying
 pub mod Starts
 pub mod Back
 pub mod Only

@@ -27,6 +27,8 @@ use Rattle.joltwagon.proofs.placing.jw_add_segment.Kinds as jw-add-segm
 use Rattle.joltwagon.proofs.placing.jw_add_segment.Reads as jw-add-segment
 use Rattle.joltwagon.proofs.placing.jw_segment_of.Kinds as jw-segment-of-kinds
 use Rattle.joltwagon.proofs.placing.jw_segment_of.Reads as jw-segment-of
+use Rattle.joltwagon.proofs.lists.jw_lay.Kinds as jw-lay-kinds
+use Rattle.joltwagon.proofs.lists.jw_lay.Reads as jw-lay
 use Rattle.joltwagon.proofs.texts.jw_text_size.Kinds as jw-text-size-kinds
 use Rattle.joltwagon.proofs.texts.jw_text_size.Reads as jw-text-size
 use Rattle.joltwagon.proofs.texts.jw_write_text.Kinds as jw-write-text-kinds
@@ -67,14 +69,17 @@ jw-add-segment-single κs a x y s t p q = (p .0 ∙ sym (q .0), p .1 ∙ sym (q 
 pub jw-segment-of-single : SingleLeaving 2 jw-segment-of-kinds.ps jw-segment-of-kinds.r (λ κs s. now (s .1 .1 .0)) jw-segment-of.Post
 jw-segment-of-single κs a x y s t p q = (p .0 ∙ sym (q .0), p .1 ∙ sym (q .1))
 
-pub jw-text-size-single : SingleLeaving 3 jw-text-size-kinds.ps jw-text-size-kinds.r (λ κs s. now (s .1 .1 .0)) jw-text-size.Post
-jw-text-size-single κs a x y s t p q = (p .0 ∙ sym (q .0), p .1 ∙ sym (q .1))
-
 same-both : {a b c d : List ℕ} → a ≡ b → c ≡ d → _≡_ {A = List ℕ × List ℕ} (a, c) (b, d)
 same-both p q = cc
 
 same-three : {a b c d e f : List ℕ} → a ≡ b → c ≡ d → e ≡ f → _≡_ {A = List ℕ × (List ℕ × List ℕ)} (a, (c, e)) (b, (d, f))
 same-three p q r = cc
+
+pub jw-lay-single : SingleLeaving {B = List ℕ × List ℕ} 3 jw-lay-kinds.ps jw-lay-kinds.r (λ κs s. (now (s .1 .1 .0), now (s .1 .1 .1 .0))) jw-lay.Post
+jw-lay-single κs a x y s t p q = (p .refusal ∙ sym (q .refusal), same-both (p .bytes ∙ sym (q .bytes)) (p .cells ∙ sym (q .cells)))
+
+pub jw-text-size-single : SingleLeaving 3 jw-text-size-kinds.ps jw-text-size-kinds.r (λ κs s. now (s .1 .1 .0)) jw-text-size.Post
+jw-text-size-single κs a x y s t p q = (p .0 ∙ sym (q .0), p .1 ∙ sym (q .1))
 
 pub jw-write-text-single : SingleLeaving {B = List ℕ × List ℕ} 4 jw-write-text-kinds.ps jw-write-text-kinds.r (λ κs s. (now (s .1 .1 .0), now (s .1 .1 .1 .0))) jw-write-text.Post
 jw-write-text-single κs a x y s t p q = (p .refusal ∙ sym (q .refusal), same-both (p .text ∙ sym (q .text)) (p .cells ∙ sym (q .cells)))

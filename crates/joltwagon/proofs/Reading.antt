@@ -1,25 +1,24 @@
 -- Reading a text with an answer beside it: where the answer has too few cells nothing is handed out, and else the two buffers are the reader's.
 -- Assumes nothing.
-use mathlib.Core.Path.{_≡_, refl, sym, ap, _∙_}
+use mathlib.Core.Path.{_≡_, refl, sym, _∙_}
 use mathlib.Core.Bool.{Bool, true, false, _||_}
 use mathlib.Core.List.{List, []}
 use Prim.Native.Nat.{ℕ, _/_, _<_, _≤_}
 use native.Mathlib.Omega.{arith}
 use borrow.Author.Tests.{le-ltb}
-use lib.Dec.{eqb, ltb}
+use lib.Dec.{ltb}
 use lib.ListN.{length}
 use Rattle.ground.specs.Choice.{pick}
 use Rattle.ground.specs.Refusals.{noRoom, brokenText, beyond}
-use Rattle.ground.proofs.Choices.{pick-false, by-pick}
+use Rattle.ground.proofs.Choices.{by-pick}
 use Rattle.answers.specs.Sizes.{sizeCells}
-use Rattle.answers.proofs.Laws.{Answers}
+use Rattle.answers.specs.Steps.{lateOf}
+use Rattle.answers.proofs.Laws.{Answers, late-answers, late-leaves, own-leaves}
 use Rattle.records.specs.Text.{Rec}
 use Rattle.reader.specs.declared.Read.{Read}
 use Rattle.reader.specs.Lines.{Found, Good, Bad, recordsIn}
 use Rattle.reader.specs.Answers.{refused, tooFar, sizeOf, roomOf, readOf, runsIn, handed, bytesOf, rowsOf, onto, ReadIs}
-use Rattle.joltwagon.specs.Texts.{readSaid, accepted, bytesAfter, runsAfter, TextRead}
-use Rattle.joltwagon.specs.Steps.{lateOf}
-use Rattle.joltwagon.proofs.Late.{late-answers, late-refuses, roomy}
+use Rattle.joltwagon.specs.Texts.{readSaid, TextRead}
 
 -- 9 is the last of the reader's refusals, so what comes late does not depend on the room
 late-refused : (room cells n : ℕ) → lateOf (roomOf room cells (refused n) .refusal) ≡ lateOf n
@@ -58,24 +57,22 @@ module _ (text x y d : List ℕ) where
   told = readOf text (length x) (length y)
 
   pub unread : {r : ℕ} → length d < 8 → r ≡ lateOf (readOf text 0 0 .refusal) → TextRead text x y d r x y d
-  unfolding readSaid sizeCells bytesAfter runsAfter accepted
+  unfolding readSaid sizeCells
   unread {r} h e =
-      let s = late-answers (readSaid told) d h in
-      let refuses = ap (λ (n : ℕ). eqb n 0) (sym (s .0)) ∙ late-refuses (told .refusal) in record {
+      let s = late-answers (readSaid told) d h in record {
         refusal = e ∙ late-read text 0 0 (length x) (length y) ∙ s .0;
-        bytes = sym (pick-false _ _ refuses);
-        rows = sym (pick-false _ _ refuses);
+        bytes = late-leaves (readSaid told) d (onto (bytesOf (runsIn text)) x) x h;
+        rows = late-leaves (readSaid told) d (onto (rowsOf (runsIn text)) y) y h;
         cells = s .1;
       }
 
   pub read :
       {r : ℕ} {q : Read} {x' y' d' : List ℕ} → 8 ≤ length d → ReadIs text x y q x' y' → Answers (readSaid told) r d d' →
       TextRead text x y d r x' y' d'
-  unfolding readSaid sizeCells bytesAfter runsAfter accepted handed
-  read {r} {q} {x'} {y'} {d'} h i a =
-      let own = roomy (readSaid told) (length d) h in record {
-        refusal = a .0;
-        bytes = i .bytes ∙ onto-picked bytesOf refl _ (runsIn text) x ∙ ap (λ (n : ℕ). pick (eqb n 0) (onto (bytesOf (runsIn text)) x) x) (sym own);
-        rows = i .rows ∙ onto-picked rowsOf refl _ (runsIn text) y ∙ ap (λ (n : ℕ). pick (eqb n 0) (onto (rowsOf (runsIn text)) y) y) (sym own);
-        cells = a .1;
-      }
+  unfolding readSaid sizeCells handed
+  read {r} {q} {x'} {y'} {d'} h i a = record {
+    refusal = a .0;
+    bytes = own-leaves (readSaid told) d (onto (bytesOf (runsIn text)) x) x h (i .bytes ∙ onto-picked bytesOf refl _ (runsIn text) x);
+    rows = own-leaves (readSaid told) d (onto (rowsOf (runsIn text)) y) y h (i .rows ∙ onto-picked rowsOf refl _ (runsIn text) y);
+    cells = a .1;
+  }

@@ -24,9 +24,11 @@ use Rattle.instruction.specs.declared.Built.{Built}
 use Rattle.instruction.specs.Building.{buildOf}
 use Rattle.records.specs.declared.Written.{Written}
 use Rattle.reader.specs.declared.Read.{Read}
+use Rattle.laying.specs.declared.Laid.{Laid}
 use Rattle.joltwagon.specs.Decoding.{partCells, decodedSaid, countedSaid}
 use Rattle.joltwagon.specs.Evaluating.{valueCells, evaluatedSaid, valueSaid}
 use Rattle.joltwagon.specs.Texts.{writtenSaid, readSaid}
+use Rattle.joltwagon.specs.Lists.{laidSaid}
 use Rattle.joltwagon.specs.Kept.{keptCells}
 use Rattle.joltwagon.specs.Instructing.{madeSaid, frontCells, builtSaid, ofRow}
 
@@ -54,6 +56,10 @@ value-said e = rw e
 pub written-said : {w v : Written} {n : List ℕ} → w ≡ v → n ≡ sizeCells (w .length) → said (w .refusal) n ≡ writtenSaid v
 unfolding writtenSaid
 written-said e g = rw (g, e)
+
+pub laid-said : {l m : Laid} {n : List ℕ} → l ≡ m → n ≡ sizeCells (l .length) → said (l .refusal) n ≡ laidSaid m
+unfolding laidSaid
+laid-said e g = rw (g, e)
 
 pub read-said :
     {r q : Read} {m n : List ℕ} → r ≡ q → m ≡ sizeCells (r .bytes) → n ≡ sizeCells (r .runs) →

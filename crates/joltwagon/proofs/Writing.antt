@@ -1,6 +1,6 @@
 -- Writing a text with an answer beside it: where the answer has too few cells nothing is written, and else the buffer is the writer's.
 -- Assumes nothing.
-use mathlib.Core.Path.{_≡_, refl, sym, ap, _∙_}
+use mathlib.Core.Path.{_≡_, refl, sym, _∙_}
 use mathlib.Core.Bool.{Bool, true, false}
 use mathlib.Core.List.{List}
 use Prim.Native.Nat.{ℕ, _<_, _≤_}
@@ -10,12 +10,11 @@ use Rattle.ground.specs.Choice.{pick}
 use Rattle.ground.specs.Refusals.{unknown, noRoom, beyond}
 use Rattle.ground.proofs.Choices.{pick-true, pick-false, by-test}
 use Rattle.answers.specs.Sizes.{sizeCells}
-use Rattle.answers.proofs.Laws.{Answers}
+use Rattle.answers.specs.Steps.{lateOf}
+use Rattle.answers.proofs.Laws.{Answers, late-answers, late-leaves, own-leaves}
 use Rattle.records.specs.declared.Written.{Written}
 use Rattle.records.specs.Written.{refused, writtenOf, bufferOf, longest}
-use Rattle.joltwagon.specs.Texts.{writtenSaid, textAfter, TextWritten}
-use Rattle.joltwagon.specs.Steps.{lateOf}
-use Rattle.joltwagon.proofs.Late.{late-answers, late-refuses, roomy}
+use Rattle.joltwagon.specs.Texts.{writtenSaid, TextWritten}
 
 -- 9 is the last of the writer's refusals, so what comes late does not depend on the room
 abbrev chosen : Bool → Bool → Bool → ℕ → Written
@@ -39,11 +38,11 @@ module _ (os vs out d : List ℕ) where
   told = writtenOf os vs (length out)
 
   pub unwritten : {r : ℕ} → length d < 4 → r ≡ lateOf (writtenOf os vs longest .refusal) → TextWritten os vs out d r out d
-  unfolding writtenSaid sizeCells textAfter
+  unfolding writtenSaid sizeCells
   unwritten {r} h e =
       let s = late-answers (writtenSaid told) d h in record {
         refusal = e ∙ late-written os vs longest (length out) ∙ s .0;
-        text = sym (pick-false _ _ (ap (λ (n : ℕ). eqb n 0) (sym (s .0)) ∙ late-refuses (told .refusal)));
+        text = late-leaves (writtenSaid told) d (bufferOf os vs out) out h;
         cells = s .1;
       }
 
@@ -58,10 +57,9 @@ module _ (os vs out d : List ℕ) where
   pub written :
       {r : ℕ} {e f : List ℕ} → 4 ≤ length d → e ≡ bufferOf os vs out → Answers (writtenSaid told) r d f →
       TextWritten os vs out d r e f
-  unfolding writtenSaid sizeCells textAfter
-  written {r} {e} {f} h p a =
-      let own = roomy (writtenSaid told) (length d) h in record {
-        refusal = a .0;
-        text = p ∙ own-buffer ∙ ap (λ (n : ℕ). pick (eqb n 0) (bufferOf os vs out) out) (sym own);
-        cells = a .1;
-      }
+  unfolding writtenSaid sizeCells
+  written {r} {e} {f} h p a = record {
+    refusal = a .0;
+    text = own-leaves (writtenSaid told) d (bufferOf os vs out) out h (p ∙ own-buffer);
+    cells = a .1;
+  }

@@ -2,6 +2,6 @@ pub mod Decoding
 pub mod Evaluating
 pub mod Placing
 pub mod Texts
+pub mod Lists
 pub mod Kept
 pub mod Instructing
-pub mod Steps

@@ -4,5 +4,6 @@ pub mod decoding;
 pub mod evaluating;
 pub mod instructing;
 mod kept;
+pub mod lists;
 pub mod placing;
 pub mod texts;

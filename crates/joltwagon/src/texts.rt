@@ -1,15 +1,14 @@
 // Objects to Intel's text, and text to runs of bytes.
 use answers::hand;
 use answers::hand_both;
+use answers::late;
 use answers::size;
-use ground::refusals::NO_ROOM;
 ghost use mathlib.Core.Path.{_≡_};
 ghost use lib.ListN.{length};
 ghost use Rattle.answers.specs.Said.{refusalOf, cellsAfter};
 ghost use Rattle.records.specs.Written.{longest, writtenOf};
 ghost use Rattle.reader.specs.Answers.{readOf};
 ghost use Rattle.joltwagon.specs.Texts.{writtenSaid, TextWritten, TextRead};
-ghost use Rattle.joltwagon.specs.Steps.{lateOf};
 
 // How long the text of the objects is, for a caller that has yet to find a buffer.
 #[no_mangle]
@@ -20,13 +19,6 @@ pub extern "C" fn jw_text_size(objects: &[u16], values: &[u16], answer: &mut [u1
     let written = records::text_size(objects, values);
     let cells = size(written.length);
     hand(written.refusal, &cells, answer)
-}
-
-// A refusal; where there is none the answer's slice was too short.
-fn late(refusal: u8) -> u8
-    ensures { λ r. ⌜ r ≡ lateOf refusal ⌝ }
-{
-    if refusal != 0 { refusal } else { NO_ROOM }
 }
 
 // Writes the text of the objects to the front of a buffer. An answer's slice that is too short is found before anything is stored.

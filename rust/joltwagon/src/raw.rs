@@ -14,6 +14,7 @@ mod c {
         pub fn jw_make(record: *const u16, record_len: usize, answer: *mut u16, answer_len: usize) -> u8;
         pub fn jw_assemble(record: *const u16, record_len: usize, address: u16, answer: *mut u16, answer_len: usize) -> u8;
         pub fn jw_build(kept: *const u16, kept_len: usize, present: *const u16, present_len: usize, address: u16, answer: *mut u16, answer_len: usize) -> u8;
+        pub fn jw_lay(list: *const u16, list_len: usize, address: u16, out: *mut u8, out_len: usize, answer: *mut u16, answer_len: usize) -> u8;
         pub fn jw_decode(bytes: *const u8, bytes_len: usize, address: u16, answer: *mut u16, answer_len: usize) -> u8;
         pub fn jw_next(bytes: *const u8, bytes_len: usize, address: u16, at: usize, answer: *mut u16, answer_len: usize) -> u8;
         pub fn jw_count(bytes: *const u8, bytes_len: usize, address: u16, answer: *mut u16, answer_len: usize) -> u8;
@@ -52,6 +53,12 @@ pub fn assemble(record: &[u16], address: u16) -> Result<[u16; BUILT]> {
 
 pub fn build(kept: &[u16], present: &[u16], address: u16) -> Result<[u16; BUILT]> {
     asked(|p, n| unsafe { c::jw_build(kept.as_ptr(), kept.len(), present.as_ptr(), present.len(), address, p, n) })
+}
+
+/// How many bytes now stand at the front of `out`.
+pub fn lay(list: &[u16], address: u16, out: &mut [u8]) -> Result<usize> {
+    let cells = asked::<4>(|p, n| unsafe { c::jw_lay(list.as_ptr(), list.len(), address, out.as_mut_ptr(), out.len(), p, n) })?;
+    Ok(size(&cells))
 }
 
 pub fn decode(bytes: &[u8], address: u16) -> Result<[u16; READ]> {

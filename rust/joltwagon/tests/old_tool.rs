@@ -14,6 +14,13 @@ fn built(name: &str, od: &OperandDescriptor, addr: u16, labels: &ProgramLabels) 
     instruction.build(addr, labels, false).map(<[u8]>::to_vec)
 }
 
+/// The record of an operation on an index register, with no offset.
+fn offset_row(operation: u16, register: u16) -> [u16; raw::RECORD] {
+    let mut row = [0; raw::RECORD];
+    row[..8].copy_from_slice(&[operation, 1, 0, 0, 0, 0, 1, register]);
+    row
+}
+
 #[test]
 fn document_cases() {
     let mut labels = ProgramLabels::new();
@@ -32,6 +39,12 @@ fn document_cases() {
     for (od, bytes) in cases {
         assert_eq!(built("LDA", &od, 0, &labels), Ok(bytes));
     }
+    let rows: Vec<u16> = [(54, 3), (54, 5)].iter().flat_map(|&(lda, register)| offset_row(lda, register)).collect();
+    let mut out = [0; 4];
+    assert_eq!(raw::lay(&rows, 0, &mut out), Ok(4));
+    assert_eq!(out, [0xA6, 0x84, 0xA6, 0xC4]);
+    assert_eq!(raw::lay(&rows, 0xFFFD, &mut out), Err(Refused(18)));
+    assert_eq!(raw::lay(&rows, 0, &mut out[..3]), Err(Refused(9)));
     let step = OperandDescriptor { regs: vec![Register::X], incdec: Some(Step::Inc), indirect: true, ..operand(Mode::IncDec, None) };
     assert_eq!(built("LDA", &step, 0, &labels), Err(Refused(5)));
 }

@@ -3,7 +3,7 @@
 use mathlib.Core.Path.{ap, _∙_}
 use borrow.Author.Needs.{needs}
 use Rattle.answers.proofs.Laws.{said-as}
-use Rattle.joltwagon.specs.Steps.{lateOf}
+use Rattle.answers.specs.Steps.{lateOf}
 use Rattle.joltwagon.proofs.Spoken.{read-said}
 use Rattle.joltwagon.proofs.Reading.{unread, read}
 use Rattle.joltwagon.proofs.texts.jw_read_text.Statement.{statement}

@@ -4,7 +4,7 @@ use mathlib.Core.Path.{ap, _∙_}
 use borrow.Author.Needs.{needs}
 use Rattle.answers.proofs.Laws.{said-as}
 use Rattle.records.specs.declared.Written.{Written}
-use Rattle.joltwagon.specs.Steps.{lateOf}
+use Rattle.answers.specs.Steps.{lateOf}
 use Rattle.joltwagon.proofs.Spoken.{written-said}
 use Rattle.joltwagon.proofs.Writing.{unwritten, written}
 use Rattle.joltwagon.proofs.texts.jw_write_text.Statement.{statement}

@@ -1,10 +1,10 @@
--- `joltwagon::texts::late` meets its contract.
+-- `answers::late` meets its contract.
 -- Assumes nothing.
 use borrow.Author.Tests.{ne-eqb, eq-eqb}
 use Rattle.ground.specs.Choice.{pick}
-use Rattle.joltwagon.specs.Steps.{lateOf}
-use Rattle.joltwagon.proofs.texts.late.Statement.{statement}
-use Rattle.joltwagon.proofs.texts.late.Tie as tie
+use Rattle.answers.specs.Steps.{lateOf}
+use Rattle.answers.proofs.late.Statement.{statement}
+use Rattle.answers.proofs.late.Tie as tie
 
 returns : tie.Need-returns
 unfolding lateOf pick
