@@ -48,7 +48,6 @@ def declared(header):
 
 def bound():
     """The declarations of the Rust crate."""
-    back = {"u8": "uint8_t", "": "void"}
     found = {}
     for name, parameters, result in re.findall(r"pub fn (jw_\w+)\(([^)]*)\)(?: -> (\w+))?;", read("rust/joltwagon/src/raw.rs")):
         kinds = []
@@ -56,7 +55,7 @@ def bound():
             kind = parameter.split(": ")[1]
             pointer = re.fullmatch(r"\*(const|mut) (\w+)", kind)
             kinds.append(("const " if pointer.group(1) == "const" else "") + TYPES[pointer.group(2)] + " *" if pointer else TYPES[kind])
-        found[name] = (back[result], kinds)
+        found[name] = (TYPES.get(result, "void"), kinds)
     return found
 
 

@@ -191,6 +191,29 @@ enum { JW_NODE_ROW = 3, JW_LABEL_ROW = 3, JW_OBJECT_ROW = 3, JW_VALUE_ROW = 2, J
 /* A table of segments: the number of starts, then the starts. 64 cells hold as many as there may be. */
 enum { JW_SEGMENTS_CELLS = 64 };
 
+/* A statement. Its items stand in a table of their own: node numbers for FCB and FDB (JW_NONE is a hole), characters for FCC. */
+enum {
+    JW_STATEMENT_KIND = 0,
+    JW_STATEMENT_LABEL = 1, /* its own label, or JW_NONE */
+    JW_STATEMENT_NODE = 2,  /* the node of its operand, or JW_NONE */
+    JW_STATEMENT_FIRST = 3, /* its first item */
+    JW_STATEMENT_COUNT = 4, /* how many items */
+    JW_STATEMENT_OPERAND = 5,
+    JW_STATEMENT_CELLS = 20
+};
+
+enum { JW_NONE = 65535 };
+
+enum jw_statement {
+    JW_BARE_LABEL = 0,
+    JW_INSTRUCTION = 1,
+    JW_RMB = 2,
+    JW_FCB = 3,
+    JW_FDB = 4,
+    JW_FCC = 5,
+    JW_ORG = 6
+};
+
 /* The number that a size says. */
 static inline uint64_t jw_size(const uint16_t *cells)
 {
@@ -260,6 +283,17 @@ uint8_t jw_write_text(const uint16_t *objects, size_t objects_len, const uint16_
  * to the front of `runs`. The answer is two sizes: how many bytes, and how many runs. */
 uint8_t jw_read_text(const uint8_t *text, size_t text_len, uint8_t *bytes, size_t bytes_len, uint16_t *runs, size_t runs_len,
                      uint16_t *answer, size_t answer_len);
+
+/* ---- statements ---- */
+
+/* What jw_settle returns: the refusal, and the number of passes made, which is said beside a refusal, too. */
+#define JW_REFUSAL(returned) ((returned) & 0xFF)
+#define JW_PASSES(returned) ((returned) >> 8)
+
+/* Makes passes over a list of statements until one changes no label address and no size: the label table gets the addresses. At most 1,024
+ * statements, 512 labels and 64 passes. The call needs some 12 KB of stack. */
+uint16_t jw_settle(const uint16_t *list, size_t list_len, const uint16_t *items, size_t items_len, const uint16_t *nodes,
+                   size_t nodes_len, uint16_t *labels, size_t labels_len);
 
 #ifdef __cplusplus
 }

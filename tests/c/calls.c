@@ -278,6 +278,39 @@ static void texts(void)
     same("last", runs[1], 0x102);
 }
 
+/* LDA label; label RMB 4; FCC "ab": the label is 2 once LDA is Direct. */
+static void settling(void)
+{
+    uint16_t list[3 * JW_STATEMENT_CELLS] = {0}, labels[JW_LABEL_ROW] = {0, 0x55, 0};
+    const uint16_t nodes[] = {1, 0, 0, 0, 4, 0}, items[] = {'a', 'b'};
+    uint16_t *lda = list, *rmb = lda + JW_STATEMENT_CELLS, *fcc = rmb + JW_STATEMENT_CELLS;
+    lda[JW_STATEMENT_KIND] = JW_INSTRUCTION;
+    lda[JW_STATEMENT_LABEL] = fcc[JW_STATEMENT_LABEL] = JW_NONE;
+    lda[JW_STATEMENT_NODE] = 0;
+    lda[JW_STATEMENT_OPERAND + JW_OPERATION] = JW_LDA;
+    lda[JW_STATEMENT_OPERAND + JW_MODE] = JW_MODE_EXTENDED;
+    rmb[JW_STATEMENT_KIND] = JW_RMB;
+    rmb[JW_STATEMENT_LABEL] = 0;
+    rmb[JW_STATEMENT_NODE] = 1;
+    fcc[JW_STATEMENT_KIND] = JW_FCC;
+    fcc[JW_STATEMENT_NODE] = JW_NONE;
+    fcc[JW_STATEMENT_COUNT] = 2;
+    uint16_t returned = jw_settle(list, 3 * JW_STATEMENT_CELLS, items, 2, nodes, 6, labels, JW_LABEL_ROW);
+    same("settle", JW_REFUSAL(returned), JW_ACCEPTED);
+    same("two passes", JW_PASSES(returned), 2);
+    const uint16_t found[] = {1, 2, 0};
+    same_bytes("the label", labels, found, sizeof found);
+    labels[1] = 0x55;
+    fcc[JW_STATEMENT_COUNT] = 257;
+    returned = jw_settle(list, 3 * JW_STATEMENT_CELLS, items, 2, nodes, 6, labels, JW_LABEL_ROW);
+    same("too many characters", returned, JW_OVER_LIMIT);
+    fcc[JW_STATEMENT_COUNT] = 3;
+    returned = jw_settle(list, 3 * JW_STATEMENT_CELLS, items, 2, nodes, 6, labels, JW_LABEL_ROW);
+    same("an unknown character", JW_REFUSAL(returned), JW_UNKNOWN);
+    same("after two passes", JW_PASSES(returned), 2);
+    same("the label as it was", labels[1], 0x55);
+}
+
 int main(void)
 {
     builds();
@@ -288,6 +321,7 @@ int main(void)
     evaluating();
     segments();
     texts();
+    settling();
     printf("C: %d compared, %d differ\n", compared, differing);
     return differing != 0;
 }

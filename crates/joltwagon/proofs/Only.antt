@@ -29,6 +29,8 @@ use Rattle.joltwagon.proofs.placing.jw_segment_of.Kinds as jw-segment-o
 use Rattle.joltwagon.proofs.placing.jw_segment_of.Reads as jw-segment-of
 use Rattle.joltwagon.proofs.lists.jw_lay.Kinds as jw-lay-kinds
 use Rattle.joltwagon.proofs.lists.jw_lay.Reads as jw-lay
+use Rattle.joltwagon.proofs.settling.jw_settle.Kinds as jw-settle-kinds
+use Rattle.joltwagon.proofs.settling.jw_settle.Reads as jw-settle
 use Rattle.joltwagon.proofs.texts.jw_text_size.Kinds as jw-text-size-kinds
 use Rattle.joltwagon.proofs.texts.jw_text_size.Reads as jw-text-size
 use Rattle.joltwagon.proofs.texts.jw_write_text.Kinds as jw-write-text-kinds
@@ -77,6 +79,9 @@ same-three p q r = cc
 
 pub jw-lay-single : SingleLeaving {B = List ℕ × List ℕ} 3 jw-lay-kinds.ps jw-lay-kinds.r (λ κs s. (now (s .1 .1 .0), now (s .1 .1 .1 .0))) jw-lay.Post
 jw-lay-single κs a x y s t p q = (p .refusal ∙ sym (q .refusal), same-both (p .bytes ∙ sym (q .bytes)) (p .cells ∙ sym (q .cells)))
+
+pub jw-settle-single : SingleLeaving 4 jw-settle-kinds.ps jw-settle-kinds.r (λ κs s. now (s .1 .1 .1 .0)) jw-settle.Post
+jw-settle-single κs a x y s t p q = (p .0 ∙ sym (q .0), p .1 ∙ sym (q .1))
 
 pub jw-text-size-single : SingleLeaving 3 jw-text-size-kinds.ps jw-text-size-kinds.r (λ κs s. now (s .1 .1 .0)) jw-text-size.Post
 jw-text-size-single κs a x y s t p q = (p .0 ∙ sym (q .0), p .1 ∙ sym (q .1))

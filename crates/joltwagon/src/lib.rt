@@ -6,4 +6,5 @@ pub mod instructing;
 mod kept;
 pub mod lists;
 pub mod placing;
+pub mod settling;
 pub mod texts;

@@ -26,6 +26,7 @@ mod c {
         pub fn jw_text_size(objects: *const u16, objects_len: usize, values: *const u16, values_len: usize, answer: *mut u16, answer_len: usize) -> u8;
         pub fn jw_write_text(objects: *const u16, objects_len: usize, values: *const u16, values_len: usize, out: *mut u8, out_len: usize, answer: *mut u16, answer_len: usize) -> u8;
         pub fn jw_read_text(text: *const u8, text_len: usize, bytes: *mut u8, bytes_len: usize, runs: *mut u16, runs_len: usize, answer: *mut u16, answer_len: usize) -> u8;
+        pub fn jw_settle(list: *const u16, list_len: usize, items: *const u16, items_len: usize, nodes: *const u16, nodes_len: usize, labels: *mut u16, labels_len: usize) -> u16;
     }
 }
 
@@ -114,4 +115,13 @@ pub fn read_text(text: &[u8], bytes: &mut [u8], runs: &mut [u16]) -> Result<(usi
         c::jw_read_text(text.as_ptr(), text.len(), bytes.as_mut_ptr(), bytes.len(), runs.as_mut_ptr(), runs.len(), p, n)
     })?;
     Ok((size(&cells[..4]), size(&cells[4..])))
+}
+
+/// The number of passes made, beside a refusal too, and whether the label table now has the addresses.
+pub fn settle(list: &[u16], items: &[u16], nodes: &[u16], labels: &mut [u16]) -> (u8, Result<()>) {
+    let returned = unsafe {
+        c::jw_settle(list.as_ptr(), list.len(), items.as_ptr(), items.len(), nodes.as_ptr(), nodes.len(), labels.as_mut_ptr(), labels.len())
+    };
+    let [refusal, passes] = returned.to_le_bytes();
+    (passes, if refusal == 0 { Ok(()) } else { Err(Refused(refusal)) })
 }

@@ -129,3 +129,22 @@ fn text_there_and_back() {
     let beyond = BinaryObject { addr: 1, data: Some(vec![0; 65536]) };
     assert_eq!(write_hex(&[beyond]).err(), Some(Refused(18)));
 }
+
+#[test]
+fn passes() {
+    // there NOP; BRA there
+    let row = |kind, label, node, operand: &[u16]| {
+        let mut row = [0; 20];
+        row[..3].copy_from_slice(&[kind, label, node]);
+        row[5..5 + operand.len()].copy_from_slice(operand);
+        row
+    };
+    let nop = row(1, 0, 0xFFFF, &[named("NOP").0, 7]);
+    let bra = row(1, 0xFFFF, 0, &[named("BRA").0, 4]);
+    let nodes = [1, 0, 0];
+    let mut labels = [0, 0x55, 0];
+    assert_eq!(raw::settle(&[bra, nop].concat(), &[], &nodes, &mut labels), (2, Ok(())));
+    assert_eq!(labels, [1, 2, 0]);
+    assert_eq!(raw::settle(&bra, &[], &nodes, &mut labels), (2, Err(Refused(10))));
+    assert_eq!(labels, [1, 2, 0]);
+}
