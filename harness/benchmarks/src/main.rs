@@ -4,6 +4,7 @@ mod building;
 mod capstone;
 mod clock;
 mod records;
+mod settling;
 mod texts;
 
 use clock::{prepared, race, rival};
@@ -165,11 +166,23 @@ fn growth() {
     }
 }
 
+/// Passes over programs of growing length.
+fn passes() {
+    println!("\nPasses\n\n| statements | passes | ns a statement and pass |\n|---|---|---|");
+    for n in [64, 256, 1024] {
+        let mut program = settling::program(n);
+        let made = settling::settle(&mut program);
+        let times = race(vec![rival("", || { black_box(settling::settle(&mut program)); })]);
+        println!("| {n} | {made} | {:.0} |", times[0].1 * 1e9 / (n * made) as f64);
+    }
+}
+
 /// One piece of work, so often. The Rust's fresh builds count the making of their operands, which `operands` counts alone.
 fn repeat(work: &str, times: usize) {
     let d = data(LONGEST / 16);
     let (mut out, mut bytes, mut runs) = (vec![0; d.text.len()], vec![0; d.image.len()], vec![0; 2]);
     let mut kept = building::made(&d.ours);
+    let mut program = settling::program(records::HOW_MANY);
     let mut theirs = Vec::new();
     let mut instructions = Vec::with_capacity(records::HOW_MANY * (times + 1));
     building::rust_fresh(records::theirs(), &mut instructions);
@@ -187,6 +200,7 @@ fn repeat(work: &str, times: usize) {
             "write" => texts::write(&d.tables, &mut out),
             "rust-write" => texts::rust_write(&d.image, &mut theirs),
             "read" => texts::read(&d.text, &mut bytes, &mut runs),
+            "settle" => settling::settle(&mut program),
             _ => panic!("no such work: {work}"),
         });
     }
@@ -206,4 +220,5 @@ fn main() {
     compare_decoding(&d);
     compare_texts(&d);
     growth();
+    passes();
 }

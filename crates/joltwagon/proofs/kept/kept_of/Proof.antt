@@ -1,7 +1,7 @@
 -- `joltwagon::kept::kept_of` meets its contract.
 -- Assumes nothing.
 use borrow.Author.Needs.{needs}
-use Rattle.joltwagon.specs.Kept.{keptOf}
+use Rattle.joltwagon.proofs.Spoken.{kept-by-part}
 use Rattle.joltwagon.proofs.kept.kept_of.Statement.{statement}
 use Rattle.joltwagon.proofs.kept.kept_of.Tie as tie
 
@@ -18,8 +18,8 @@ flag-in-requires-2 : tie.Need-flag-in-requires-2
 flag-in-requires-2 c κs = search needs
 
 returns : tie.Need-returns
-unfolding keptOf
-returns c = cc
+returns c =
+    kept-by-part _ (c .before .before .before .operand-of .ensures) (c .before .before .byte-in .ensures) (c .before .flag-in .ensures) (c .flag-in2 .ensures)
 
 pub kept-of-spec : {M : Type 1} → statement M
 kept-of-spec =
