@@ -72,3 +72,18 @@ def decoded(data, address):
     answer = words([0] * 9)
     refusal = LIBRARY.jw_decode(data, ctypes.c_size_t(len(data)), ctypes.c_uint16(address), *lent(answer))
     return refusal & 255 or list(answer)
+
+
+def hex_of(statements, items, nodes, labels, object_rows, value_rows, room):
+    """Refusal, passes, the label table, and the text of a list of statements; no text beside a refusal, which must leave everything as it was."""
+    table, objects, values = words(labels), words([7] * (3 * object_rows)), words([7] * (2 * value_rows))
+    out, answer = ctypes.create_string_buffer(b"U" * room, room), words([0] * 4)
+    returned = LIBRARY.jw_hex(
+        *lent(words(statements), words(items), words(nodes), table, objects, values), out, ctypes.c_size_t(room), *lent(answer)
+    )
+    refusal, passes, length = returned & 255, returned >> 8 & 255, size(answer)
+    assert out.raw[length:] == b"U" * (room - length)
+    if refusal:
+        assert length == 0 and set(objects) <= {7} and set(values) <= {7}
+        return refusal, passes, list(table), None
+    return 0, passes, list(table), out.raw[:length].decode()
