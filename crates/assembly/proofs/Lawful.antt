@@ -1,7 +1,7 @@
 -- The record writer never refuses what was assembled: neither 1 nor 18, whatever the room.
 -- Assumes nothing.
 use mathlib.Core.Path.{_≡_, refl}
-use mathlib.Core.Bool.{false, not}
+use mathlib.Core.Bool.{Bool, true, false, not}
 use mathlib.Core.List.{List, [], _∷_, _++_}
 use Prim.Native.Nat.{ℕ, zero, suc, _+_, _*_, _/_, _%_, _≤_, _<_}
 use native.Mathlib.Omega.{arith}
@@ -17,11 +17,13 @@ use Rattle.records.specs.Text.{textOf}
 use Rattle.records.specs.Written.{writtenOf, bufferOf}
 use Rattle.statements.proofs.Lawful.{values-lawful}
 use Rattle.passes.specs.Walks.{Source}
-use Rattle.passes.specs.Passes.{Outcome}
-use Rattle.assembly.specs.Objects.{valuesBuilt, addressAt, dirtyAt, valuesIn, gather, objectsFrom, valuesFrom}
+use Rattle.passes.specs.Passes.{Outcome, passedOf, tooMany, endedOf}
+use Rattle.assembly.specs.Objects.{valuesBuilt, addressAt, dirtyAt, valuesIn, gather, objectsFrom, valuesFrom, objectsOf, valuesOf}
+use Rattle.assembly.specs.Text.{settledText}
 use Rattle.assembly.proofs.Places.{Stands}
 use Rattle.assembly.proofs.Rows.{shape-near, shape-known}
-use Rattle.assembly.proofs.Settled.{stands-shape}
+use Rattle.assembly.proofs.Settled.{stands-shape, passed-stand}
+use Rattle.assembly.proofs.Short.{passed-short}
 
 -- values after values, in whole rows
 good-append :
@@ -48,7 +50,7 @@ module _ (src : Source) (o : Outcome) (fine : ℕ) (all : (i : ℕ) → i < fine
       shape-known _ _ _ _ _ _ (stands-shape src o i (all i (omega arith))) (objectsFrom src o n (i + 1)) (valuesFrom src o n (i + 1))
       (objects-known n (i + 1) (omega arith))
 
-  pub never-far : tooFar (records.objectsOf (objectsFrom src o fine 0) (valuesFrom src o fine 0)) ≡ false
+  never-far : tooFar (records.objectsOf (objectsFrom src o fine 0) (valuesFrom src o fine 0)) ≡ false
   never-far = objects-near fine 0 (omega arith)
 
   module _ (nodes-fit : Cells Short (src .nodes)) (labels-fit : Cells Short (o .table)) where
@@ -65,16 +67,46 @@ module _ (src : Source) (o : Outcome) (fine : ℕ) (all : (i : ℕ) → i < fine
         good-append (valuesIn src o i) (valuesFrom src o n (i + 1)) _ (stands-shape src o i (all i (omega arith)) .long)
         (values-good i (omega arith)) (values-fit n (i + 1) (omega arith))
 
-    pub never-faulty : faulty (objectsFrom src o fine 0) (valuesFrom src o fine 0) ≡ false
+    never-faulty : faulty (objectsFrom src o fine 0) (valuesFrom src o fine 0) ≡ false
     unfolding faulty
     never-faulty = rw (values-fit fine 0 (omega arith)) (objects-known fine 0 (omega arith))
 
 -- what is neither faulty nor too far is written wherever there is room
-module _ (os vs d : List ℕ) (f : faulty os vs ≡ false) (t : tooFar (records.objectsOf os vs) ≡ false) where
-  pub text-accepted : (room : ℕ) → length (textOf os vs) ≤ room → writtenOf os vs room ≡ record { refusal = 0; length = length (textOf os vs) }
+module _ (os vs : List ℕ) (f : faulty os vs ≡ false) (t : tooFar (records.objectsOf os vs) ≡ false) where
+  text-accepted : (room : ℕ) → length (textOf os vs) ≤ room → writtenOf os vs room ≡ record { refusal = 0; length = length (textOf os vs) }
   unfolding writtenOf pick
   text-accepted room h = rw (f, t, le-ltb room (length (textOf os vs)) h)
 
-  pub text-written : length (textOf os vs) ≤ length d → bufferOf os vs d ≡ textOf os vs ++ drop (length (textOf os vs)) d
+  text-written : (d : List ℕ) → length (textOf os vs) ≤ length d → bufferOf os vs d ≡ textOf os vs ++ drop (length (textOf os vs)) d
   unfolding bufferOf pick
-  text-written h = rw (text-accepted (length d) h)
+  text-written d h = rw (text-accepted (length d) h)
+
+module _ (src : Source) (ls : List ℕ) (nodes-fit : Cells Short (src .nodes)) (lent-fits : Cells Short ls) where
+  lawful-from :
+      (b : Bool) → tooMany (src .list) (src .nodes) ≡ b →
+      (faulty (objectsOf src ls) (valuesOf src ls) ≡ false) × (tooFar (records.objectsOf (objectsOf src ls) (valuesOf src ls)) ≡ false)
+  unfolding objectsOf valuesOf endedOf gather faulty pick
+  lawful-from true q = (rw q, rw q)
+  lawful-from false q =
+      let o = passedOf src ls in (
+        rw q (never-faulty src o (o .answer .fine) (passed-stand src ls) nodes-fit (passed-short src ls lent-fits)),
+        rw q (never-far src o (o .answer .fine) (passed-stand src ls)),
+      )
+
+  -- the rows of the statements before the refused one, be there one or not
+  pub lawful : (faulty (objectsOf src ls) (valuesOf src ls) ≡ false) × (tooFar (records.objectsOf (objectsOf src ls) (valuesOf src ls)) ≡ false)
+  lawful = lawful-from (tooMany (src .list) (src .nodes)) refl
+
+  -- the writer refuses only for want of room
+  pub never-refused :
+      (room : ℕ) → length (settledText src ls) ≤ room →
+      writtenOf (objectsOf src ls) (valuesOf src ls) room ≡ record { refusal = 0; length = length (settledText src ls) }
+  unfolding settledText
+  never-refused room h = text-accepted (objectsOf src ls) (valuesOf src ls) (lawful .0) (lawful .1) room h
+
+  -- and writes the text, followed by what the buffer held beyond it
+  pub text-stored :
+      (d : List ℕ) → length (settledText src ls) ≤ length d →
+      bufferOf (objectsOf src ls) (valuesOf src ls) d ≡ settledText src ls ++ drop (length (settledText src ls)) d
+  unfolding settledText
+  text-stored d h = text-written (objectsOf src ls) (valuesOf src ls) (lawful .0) (lawful .1) d h

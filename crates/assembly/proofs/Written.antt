@@ -1,34 +1,30 @@
 -- The ways that `hex` ends.
 -- Assumes nothing.
 use mathlib.Core.Path.{_≡_, sym, ap, _∙_}
-use mathlib.Core.Bool.{false}
-use mathlib.Core.List.{List, _++_}
+use mathlib.Core.List.{List}
 use Prim.Native.Nat.{ℕ, _≤_, _<_}
 use native.Mathlib.Omega.{arith}
-use lib.ListN.{length, take, drop}
+use lib.ListN.{length, take}
 use lib.Seq.{take-at}
 use borrow.Author.Tests.{eq-eqb, ne-eqb, lt-ltb, le-ltb}
-use Rattle.ground.specs.Choice.{pick}
 use Rattle.ground.specs.Refusals.{noRoom}
 use Rattle.ground.specs.Stores.{put}
 use Rattle.ground.proofs.Choices.{pick-true, pick-false}
 use Rattle.ground.proofs.Stores.{put-length}
 use Rattle.expressions.proofs.Every.{Cells}
 use Rattle.expressions.proofs.Fits.{Short}
-use Rattle.records.specs.Text.{textOf}
 use Rattle.records.specs.Written.{bufferOf}
 use Rattle.passes.specs.Labels.{laidOver}
 use Rattle.passes.specs.Walks.{Source}
-use Rattle.passes.specs.Passes.{passedOf, tooMany, endedOf, workedTable}
+use Rattle.passes.specs.Passes.{workedTable}
 use Rattle.assembly.specs.declared.Plan.{Plan}
 use Rattle.assembly.specs.declared.Hexed.{Hexed}
-use Rattle.assembly.specs.Objects.{objectsFrom, valuesFrom, objectsOf, valuesOf}
+use Rattle.assembly.specs.Objects.{objectsOf, valuesOf}
 use Rattle.assembly.specs.Answers.{refusalOf, stored, labelled}
 use Rattle.assembly.specs.Text.{settledText, hexRefusal, unwritten, hexedOf}
 use Rattle.assembly.specs.Steps.{firstPlace, objectsOn, valuesOn, planOf}
-use Rattle.assembly.proofs.Settled.{passed-stand}
-use Rattle.assembly.proofs.Lawful.{never-faulty, never-far, text-written}
-use Rattle.assembly.proofs.Endings.{many-not, worked-passed, room-objects, room-values, stored-objects, stored-values, stored-labels}
+use Rattle.assembly.proofs.Lawful.{text-stored}
+use Rattle.assembly.proofs.Endings.{room-objects, room-values, stored-objects, stored-values, stored-labels}
 
 module _ (src : Source) (ls os vs out : List ℕ) where
   abbrev why : ℕ
@@ -86,25 +82,6 @@ module _ (src : Source) (ls os vs out : List ℕ) where
             pick-true _ _ (eq-eqb why 0 accepted)
             ∙ pick-false _ _ (le-ltb (length out) (length (settledText src ls)) (omega (arith, measured)))
 
-        module _ (nodes-fit : Cells Short (src .nodes)) (table-fits : Cells Short t) where
-          passed-fits : Cells Short (passedOf src ls .table)
-          passed-fits k = rw (← worked-passed src ls (length os) (length vs) accepted t₀, ← w) (table-fits k)
-
-          -- the text of what was stored, and the rest of the buffer as it was
-          text-stored : bufferOf (objectsOf src ls) (valuesOf src ls) out ≡ settledText src ls ++ drop (length (settledText src ls)) out
-          unfolding settledText objectsOf valuesOf endedOf pick
-          text-stored =
-              let o = passedOf src ls in
-              let room = measured in
-              let f = never-faulty src o (o .answer .fine) (passed-stand src ls) nodes-fit passed-fits in
-              let n = never-far src o (o .answer .fine) (passed-stand src ls) in
-              rw (many-not src ls (length os) (length vs) accepted) (text-written _ _ out f n (in-room (many-not src ls (length os) (length vs) accepted)))
-            where
-              in-room :
-                  tooMany (src .list) (src .nodes) ≡ false →
-                  length (textOf (objectsFrom src (passedOf src ls) (passedOf src ls .answer .fine) 0) (valuesFrom src (passedOf src ls) (passedOf src ls .answer .fine) 0)) ≤ length out
-              in-room q = let l = rw q at measured in omega arith
-
         pub rows-there : (os′ : List ℕ) → os′ ≡ put os 0 (objectsOn src t (m .fine) 0 firstPlace) → m .objects ≤ length os′
         unfolding planOf
         rows-there os′ e =
@@ -116,7 +93,7 @@ module _ (src : Source) (ls os vs out : List ℕ) where
             omega (arith, ap (λ (x : Plan). x .values) p, room-values src ls (length os) (length vs) accepted, ap length e, put-length vs 0 (valuesOn src t (m .fine) 0 firstPlace))
 
         pub written-answers :
-            (r : Hexed) (ls′ os′ vs′ out′ : List ℕ) → Cells Short (src .nodes) → Cells Short t → ls′ ≡ laidOver t ls →
+            (r : Hexed) (ls′ os′ vs′ out′ : List ℕ) → Cells Short (src .nodes) → Cells Short ls → ls′ ≡ laidOver t ls →
             os′ ≡ put os 0 (objectsOn src t (m .fine) 0 firstPlace) → vs′ ≡ put vs 0 (valuesOn src t (m .fine) 0 firstPlace) →
             out′ ≡ bufferOf (take (m .objects) os′) (take (m .values) vs′) out →
             r ≡ record { refusal = 0; passes = m .passes; length = m .length } →
@@ -139,7 +116,7 @@ module _ (src : Source) (ls os vs out : List ℕ) where
                     values ∙ sym (pick-true _ _ q),
                     b ∙ ap (λ (x : List ℕ). bufferOf x (take (m .values) vs′) out) front
                         ∙ ap (λ (x : List ℕ). bufferOf (objectsOf src ls) x out) numbers
-                        ∙ text-stored nf tf ∙ sym (pick-true _ _ q),
+                        ∙ text-stored src ls nf tf out (omega (arith, measured)) ∙ sym (pick-true _ _ q),
                   ),
                 ),
               ),

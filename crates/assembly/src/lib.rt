@@ -10,8 +10,8 @@ use records::write_text;
 use statements::listing::NONE;
 use statements::listing::label_at;
 ghost use mathlib.Core.Path.{_≡_};
-ghost use Prim.Native.Nat.{ℕ, _≤_, _<_};
-ghost use lib.ListN.{length, getD, take};
+ghost use Prim.Native.Nat.{_≤_, _<_};
+ghost use lib.ListN.{length, take};
 ghost use Rattle.ground.specs.Stores.{put};
 ghost use Rattle.records.specs.Written.{bufferOf};
 ghost use Rattle.passes.specs.Labels.{laidOver};
@@ -136,7 +136,6 @@ fn store_all(
     ensures labels { λ _. ⌜ now (labels .exit) ≡ laidOver (now (table .entry)) (now (labels .entry)) ⌝ }
     ensures objects { λ _. ⌜ now (objects .exit) ≡ put (now (objects .entry)) 0 (objectsOn (source (now (list .entry)) (now (items .entry)) (now (nodes .entry))) (now (table .entry)) n 0 firstPlace) ⌝ }
     ensures values { λ _. ⌜ now (values .exit) ≡ put (now (values .entry)) 0 (valuesOn (source (now (list .entry)) (now (items .entry)) (now (nodes .entry))) (now (table .entry)) n 0 firstPlace) ⌝ }
-    ensures short { λ _. ⌜ ((k : ℕ) → getD (now (nodes .entry)) k 0 < 65536) × ((k : ℕ) → getD (now (table .entry)) k 0 < 65536) ⌝ }
 {
     emit(list, items, nodes, table, n, objects, values);
     store_labels(table, labels);

@@ -9,8 +9,7 @@ use statements::listing::object_kind;
 use statements::listing::statement_at;
 use statements::objects::store_values;
 ghost use mathlib.Core.Path.{_≡_};
-ghost use Prim.Native.Nat.{ℕ, _+_, _≤_, _<_};
-ghost use lib.ListN.{getD};
+ghost use Prim.Native.Nat.{_+_, _≤_, _<_};
 ghost use Rattle.ground.specs.Stores.{put, Wrote};
 ghost use Rattle.passes.specs.Walks.{source};
 ghost use Rattle.assembly.specs.Objects.{kindAt, objectRow};
@@ -155,7 +154,6 @@ pub(crate) fn emit(
     ensures answer { λ r. ⌜ r ≡ extentOf (source (now (list .entry)) (now (items .entry)) (now (nodes .entry))) (now (labels .entry)) n ⌝ }
     ensures objects { λ _. ⌜ now (objects .exit) ≡ put (now (objects .entry)) 0 (objectsOn (source (now (list .entry)) (now (items .entry)) (now (nodes .entry))) (now (labels .entry)) n 0 firstPlace) ⌝ }
     ensures values { λ _. ⌜ now (values .exit) ≡ put (now (values .entry)) 0 (valuesOn (source (now (list .entry)) (now (items .entry)) (now (nodes .entry))) (now (labels .entry)) n 0 firstPlace) ⌝ }
-    ensures short { λ _. ⌜ ((k : ℕ) → getD (now (nodes .entry)) k 0 < 65536) × ((k : ℕ) → getD (now (labels .entry)) k 0 < 65536) ⌝ }
 {
     let place = Place {
         at: 0,

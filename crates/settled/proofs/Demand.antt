@@ -39,12 +39,12 @@ use Rattle.passes.specs.Walks.{Source, walkTo, walkOf}
 use Rattle.passes.specs.Passes.{Outcome, passOf, passedOf, answerOf, tooMany, endedOf}
 use Rattle.passes.proofs.Fine.{fine-all}
 use Rattle.passes.proofs.Rests.{Rests, ended-rests}
-use Rattle.assembly.specs.Objects.{gather, addressAt, dirtyAt, objectsFrom, valuesFrom, objectsOf, valuesOf}
+use Rattle.assembly.specs.Objects.{gather, addressAt, dirtyAt, objectsOf, valuesOf}
 use Rattle.assembly.specs.Made.{bytesIn, madeIn, madeFrom}
 use Rattle.assembly.specs.Text.{settledText}
 use Rattle.assembly.proofs.Places.{Stands, own}
 use Rattle.assembly.proofs.Settled.{passed-stand}
-use Rattle.assembly.proofs.Lawful.{never-faulty, never-far}
+use Rattle.assembly.proofs.Lawful.{lawful}
 use Rattle.assembly.proofs.Made.{settled-bytes, recordIn, builtIn, built-accepted, built-bytes}
 use Rattle.settled.specs.Code.{isCode, recordsIn, recordsFrom, recordsIs}
 use Rattle.settled.specs.Demand.{bytesIs, SettledDemand}
@@ -246,21 +246,17 @@ module _ (src : Source) (ls : List ℕ) (z : endedOf src ls .refusal ≡ 0) wher
 
   -- the text is read back as the runs of the statements' own objects
   text-runs :
-      Cells Short (src .nodes) → Cells Short (passedOf src ls .table) →
+      Cells Short (src .nodes) → Cells Short ls →
       runsIn (settledText src ls) ≡ runsOf (pieces (madeFrom src (passedOf src ls) (rowsOf (src .list)) 0))
-  unfolding settledText objectsOf valuesOf
-  text-runs nodes-fit labels-fit =
-      let o = passedOf src ls in
-      let n = o .answer .fine in
-      let fine : endedOf src ls .fine ≡ n = ap (λ (e : Ended). e .fine) ended-passed in
-      let f = never-faulty src o n (passed-stand src ls) nodes-fit labels-fit in
-      let t = never-far src o n (passed-stand src ls) in
-      tables-read (objectsFrom src o (endedOf src ls .fine) 0) (valuesFrom src o (endedOf src ls .fine) 0) (rw fine f) (rw fine t)
+  unfolding settledText
+  text-runs nodes-fit lent-fits =
+      let rows = lawful src ls nodes-fit lent-fits in
+      tables-read (objectsOf src ls) (valuesOf src ls) (rows .0) (rows .1)
       ∙ ap (λ (os : List Object). runsOf (pieces os)) (settled-bytes src ls)
-      ∙ ap (λ (k : ℕ). runsOf (pieces (madeFrom src o k 0))) (fine ∙ all-fine)
+      ∙ ap (λ (k : ℕ). runsOf (pieces (madeFrom src (passedOf src ls) k 0))) (ap (λ (e : Ended). e .fine) ended-passed ∙ all-fine)
 
 pub settled-reads : SettledDemand
-settled-reads src ls code z nodes-fit labels-fit =
+settled-reads src ls code z nodes-fit lent-fits =
     let o = passedOf src ls in
     let rows = rowsOf (src .list) in
     let fine = all-fine src ls z in
@@ -273,7 +269,7 @@ settled-reads src ls code z nodes-fit labels-fit =
     let all = laid-whole (recordsIs src ls) 0 65536 (bytesIs src ls) (omega arith) laid-so in
     record {
       laid = laid-so;
-      run = text-runs src ls z nodes-fit labels-fit ∙ (rw start at (j .runs));
+      run = text-runs src ls z nodes-fit lent-fits ∙ (rw start at (j .runs));
       same = laid-decodes (recordsIs src ls) 0 65536 (bytesIs src ls) (omega arith) laid-so;
       accepted = all .0;
       number = all .1;

@@ -18,7 +18,7 @@ use Rattle.laying.specs.Meant.{meaningsFrom}
 use Rattle.statements.specs.Listing.{statementAt}
 use Rattle.passes.specs.Labels.{rowsOf}
 use Rattle.passes.specs.Walks.{Source}
-use Rattle.passes.specs.Passes.{passedOf, endedOf}
+use Rattle.passes.specs.Passes.{endedOf}
 use Rattle.assembly.specs.Text.{settledText}
 use Rattle.settled.specs.Code.{isCode, recordsIs}
 
@@ -45,5 +45,5 @@ SettledDemand =
     ((i : ℕ) → i < rowsOf (src .list) → isCode (statementAt (src .list) i) ≡ true) →
     endedOf src ls .refusal ≡ 0 →
     Cells Short (src .nodes) →
-    Cells Short (passedOf src ls .table) →
+    Cells Short ls →
     ReadsBack src ls

@@ -39,7 +39,7 @@ returns-2 c =
     let tested = put .before .before .before .before .before in
     let prepared = tested .before .before in
     stored-answers _ _ _ _ _ (prepared .prepare .ensures .0) (tested .if1 .left) _ _ (prepared .prepare .ensures .1) _ _ _ _
-    (put .store-all .ensures .0) (put .store-all .ensures .1 .0) (put .store-all .ensures .1 .1 .0) refl
+    (put .store-all .ensures .0) (put .store-all .ensures .1 .0) (put .store-all .ensures .1 .1) refl
 
 pub assemble-spec : {M : Type 1} → statement M
 assemble-spec =

@@ -1,6 +1,7 @@
 -- `assembly::hex` meets its contract: a refusal leaves everything, and else everything is stored and its text written.
 -- Assumes nothing.
 use mathlib.Core.Path.{refl}
+use native.Mathlib.Omega.{arith}
 use denote.Ref.{now}
 use Rattle.assembly.specs.Steps.{planOf}
 use Rattle.assembly.proofs.Endings.{fine-few}
@@ -48,7 +49,7 @@ write-stored-requires c κs =
     let vs = now (a .values) in
     let out = now (a .out) in (
       rows-there _ _ os vs out _ (plan .0) fine room _ _ (plan .1) _ (put .store-all .ensures .1 .0),
-      values-there _ _ os vs out _ (plan .0) fine room _ _ (plan .1) _ (put .store-all .ensures .1 .1 .0),
+      values-there _ _ os vs out _ (plan .0) fine room _ _ (plan .1) _ (put .store-all .ensures .1 .1),
     )
 
 same-length-3 : tie.Need-same-length-3
@@ -69,8 +70,9 @@ returns-3 c =
     let tested = put .before .before .before .before .before in
     let plan = tested .before .before .before .before .prepare .ensures in
     let stored = put .store-all .ensures in
+    let known = c .before .before .before .before .before .before .before .before .before .before .before .before .before .before .before .before .before .before .before .before .before .before .before .before .before .before .before in
     written-answers _ _ _ _ _ _ (plan .0) (tested .before .before .if1 .left) (tested .if2 .left) _ _ (plan .1) _ _ _ _ _
-    (stored .1 .1 .1 .0) (stored .1 .1 .1 .1) (stored .0) (stored .1 .0) (stored .1 .1 .0) (c .before .before .write-stored .ensures) refl
+    (λ k. omega (arith, known .before .shared-slice-known3 .given k)) (λ k. omega (arith, known .slice-known .given k)) (stored .0) (stored .1 .0) (stored .1 .1) (c .before .before .write-stored .ensures) refl
 
 pub hex-spec : {M : Type 1} → statement M
 hex-spec =

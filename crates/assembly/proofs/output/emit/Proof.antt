@@ -50,11 +50,8 @@ same-length-2 c = c .before .before .before .loop .inv .values .size
 returns : tie.Need-returns Inv-loop μ-loop
 returns c =
     let loop = c .before .before .before .loop in
-    let known = c .before .before .before .before .before .before in
-    let end =
     gone-end _ _ _ _ _ _ _ (loop .s) (loop .i) (loop .left) (loop .inv) _ (c .before .before .loop-test .left)
-    (ap (λ (n : ℕ). record { objects = loop .s .objects; values = loop .s .values; length = n }) (c .end .ensures)) in
-    (end .0, (end .1 .0, (end .1 .1, (λ k. omega (arith, known .before .shared-slice-known3 .given k), λ k. omega (arith, known .shared-slice-known4 .given k)))))
+    (ap (λ (n : ℕ). record { objects = loop .s .objects; values = loop .s .values; length = n }) (c .end .ensures))
 
 pub emit-spec : {M : Type 1} → statement M
 emit-spec =
