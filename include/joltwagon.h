@@ -286,7 +286,7 @@ uint8_t jw_read_text(const uint8_t *text, size_t text_len, uint8_t *bytes, size_
 
 /* ---- statements ---- */
 
-/* What jw_settle returns: the refusal, and the number of passes made, which is said beside a refusal, too. */
+/* What jw_settle and jw_hex return: the refusal, and the number of passes made, which is said beside a refusal, too. */
 #define JW_REFUSAL(returned) ((returned) & 0xFF)
 #define JW_PASSES(returned) ((returned) >> 8)
 
@@ -294,6 +294,12 @@ uint8_t jw_read_text(const uint8_t *text, size_t text_len, uint8_t *bytes, size_
  * statements, 512 labels and 64 passes. The call needs some 12 KB of stack. */
 uint16_t jw_settle(const uint16_t *list, size_t list_len, const uint16_t *items, size_t items_len, const uint16_t *nodes,
                    size_t nodes_len, uint16_t *labels, size_t labels_len);
+
+/* From a list of statements to the text of its settled pass: the label table gets the addresses, the object and value tables what jw_write_text
+ * takes, the front of `out` the text, and the answer is its length, a size. */
+uint16_t jw_hex(const uint16_t *list, size_t list_len, const uint16_t *items, size_t items_len, const uint16_t *nodes,
+                size_t nodes_len, uint16_t *labels, size_t labels_len, uint16_t *objects, size_t objects_len, uint16_t *values,
+                size_t values_len, uint8_t *out, size_t out_len, uint16_t *answer, size_t answer_len);
 
 #ifdef __cplusplus
 }

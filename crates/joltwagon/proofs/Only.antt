@@ -31,6 +31,8 @@ use Rattle.joltwagon.proofs.lists.jw_lay.Kinds as jw-lay-kinds
 use Rattle.joltwagon.proofs.lists.jw_lay.Reads as jw-lay
 use Rattle.joltwagon.proofs.settling.jw_settle.Kinds as jw-settle-kinds
 use Rattle.joltwagon.proofs.settling.jw_settle.Reads as jw-settle
+use Rattle.joltwagon.proofs.settling.jw_hex.Kinds as jw-hex-kinds
+use Rattle.joltwagon.proofs.settling.jw_hex.Reads as jw-hex
 use Rattle.joltwagon.proofs.texts.jw_text_size.Kinds as jw-text-size-kinds
 use Rattle.joltwagon.proofs.texts.jw_text_size.Reads as jw-text-size
 use Rattle.joltwagon.proofs.texts.jw_write_text.Kinds as jw-write-text-kinds
@@ -92,3 +94,17 @@ jw-write-text-single κs a x y s t p q = (p .refusal ∙ sym (q .refusal), same-
 pub jw-read-text-single : SingleLeaving {B = List ℕ × (List ℕ × List ℕ)} 4 jw-read-text-kinds.ps jw-read-text-kinds.r (λ κs s. (now (s .1 .0), (now (s .1 .1 .0), now (s .1 .1 .1 .0)))) jw-read-text.Post
 jw-read-text-single κs a x y s t p q =
     (p .refusal ∙ sym (q .refusal), same-three (p .bytes ∙ sym (q .bytes)) (p .rows ∙ sym (q .rows)) (p .cells ∙ sym (q .cells)))
+
+same-five :
+    {a b c d e f g h i j : List ℕ} → a ≡ b → c ≡ d → e ≡ f → g ≡ h → i ≡ j →
+    _≡_ {A = List ℕ × (List ℕ × (List ℕ × (List ℕ × List ℕ)))} (a, (c, (e, (g, i)))) (b, (d, (f, (h, j))))
+same-five p q r s t = cc
+
+pub jw-hex-single :
+    SingleLeaving {B = List ℕ × (List ℕ × (List ℕ × (List ℕ × List ℕ)))} 8 jw-hex-kinds.ps jw-hex-kinds.r
+    (λ κs s. (now (s .1 .1 .1 .0), (now (s .1 .1 .1 .1 .0), (now (s .1 .1 .1 .1 .1 .0), (now (s .1 .1 .1 .1 .1 .1 .0), now (s .1 .1 .1 .1 .1 .1 .1 .0))))))
+    jw-hex.Post
+jw-hex-single κs a x y s t p q = (
+  p .returned ∙ sym (q .returned),
+  same-five (p .labels ∙ sym (q .labels)) (p .objects ∙ sym (q .objects)) (p .values ∙ sym (q .values)) (p .text ∙ sym (q .text)) (p .cells ∙ sym (q .cells)),
+)

@@ -26,10 +26,12 @@ use Rattle.instruction.specs.Building.{buildOf}
 use Rattle.records.specs.declared.Written.{Written}
 use Rattle.reader.specs.declared.Read.{Read}
 use Rattle.laying.specs.declared.Laid.{Laid}
+use Rattle.assembly.specs.declared.Hexed.{Hexed}
 use Rattle.joltwagon.specs.Decoding.{partCells, decodedSaid, countedSaid}
 use Rattle.joltwagon.specs.Evaluating.{valueCells, evaluatedSaid, valueSaid}
 use Rattle.joltwagon.specs.Texts.{writtenSaid, readSaid}
 use Rattle.joltwagon.specs.Lists.{laidSaid}
+use Rattle.joltwagon.specs.Settling.{hexSaid}
 use Rattle.entries.specs.Entries.{byteIn, flagIn, operandOf}
 use Rattle.joltwagon.specs.Kept.{keptOf, keptCells}
 use Rattle.joltwagon.specs.Instructing.{madeSaid, frontCells, builtSaid, ofRow}
@@ -62,6 +64,10 @@ written-said e g = rw (g, e)
 pub laid-said : {l m : Laid} {n : List ℕ} → l ≡ m → n ≡ sizeCells (l .length) → said (l .refusal) n ≡ laidSaid m
 unfolding laidSaid
 laid-said e g = rw (g, e)
+
+pub hex-said : {h g : Hexed} {n : List ℕ} → h ≡ g → n ≡ sizeCells (h .length) → said (h .refusal) n ≡ hexSaid g
+unfolding hexSaid
+hex-said e g = rw (g, e)
 
 pub read-said :
     {r q : Read} {m n : List ℕ} → r ≡ q → m ≡ sizeCells (r .bytes) → n ≡ sizeCells (r .runs) →

@@ -26,6 +26,7 @@ mod c {
         pub fn jw_text_size(objects: *const u16, objects_len: usize, values: *const u16, values_len: usize, answer: *mut u16, answer_len: usize) -> u8;
         pub fn jw_write_text(objects: *const u16, objects_len: usize, values: *const u16, values_len: usize, out: *mut u8, out_len: usize, answer: *mut u16, answer_len: usize) -> u8;
         pub fn jw_read_text(text: *const u8, text_len: usize, bytes: *mut u8, bytes_len: usize, runs: *mut u16, runs_len: usize, answer: *mut u16, answer_len: usize) -> u8;
+        pub fn jw_hex(list: *const u16, list_len: usize, items: *const u16, items_len: usize, nodes: *const u16, nodes_len: usize, labels: *mut u16, labels_len: usize, objects: *mut u16, objects_len: usize, values: *mut u16, values_len: usize, out: *mut u8, out_len: usize, answer: *mut u16, answer_len: usize) -> u16;
         pub fn jw_settle(list: *const u16, list_len: usize, items: *const u16, items_len: usize, nodes: *const u16, nodes_len: usize, labels: *mut u16, labels_len: usize) -> u16;
     }
 }
@@ -117,11 +118,48 @@ pub fn read_text(text: &[u8], bytes: &mut [u8], runs: &mut [u16]) -> Result<(usi
     Ok((size(&cells[..4]), size(&cells[4..])))
 }
 
+/// The passes made, and the refusal if there is one.
+fn returned(number: u16) -> (u8, Result<()>) {
+    let [refusal, passes] = number.to_le_bytes();
+    (passes, if refusal == 0 { Ok(()) } else { Err(Refused(refusal)) })
+}
+
 /// The number of passes made, beside a refusal too, and whether the label table now has the addresses.
 pub fn settle(list: &[u16], items: &[u16], nodes: &[u16], labels: &mut [u16]) -> (u8, Result<()>) {
-    let returned = unsafe {
+    returned(unsafe {
         c::jw_settle(list.as_ptr(), list.len(), items.as_ptr(), items.len(), nodes.as_ptr(), nodes.len(), labels.as_mut_ptr(), labels.len())
-    };
-    let [refusal, passes] = returned.to_le_bytes();
-    (passes, if refusal == 0 { Ok(()) } else { Err(Refused(refusal)) })
+    })
+}
+
+/// What `hex` stores beside the addresses of the labels.
+pub struct Room<'a> {
+    pub objects: &'a mut [u16],
+    pub values: &'a mut [u16],
+    pub out: &'a mut [u8],
+}
+
+/// The number of passes made, beside a refusal too, and the length of the text that now stands at the front of `out`.
+pub fn hex(list: &[u16], items: &[u16], nodes: &[u16], labels: &mut [u16], room: Room) -> (u8, Result<usize>) {
+    let mut answer = [0; 4];
+    let (passes, accepted) = returned(unsafe {
+        c::jw_hex(
+            list.as_ptr(),
+            list.len(),
+            items.as_ptr(),
+            items.len(),
+            nodes.as_ptr(),
+            nodes.len(),
+            labels.as_mut_ptr(),
+            labels.len(),
+            room.objects.as_mut_ptr(),
+            room.objects.len(),
+            room.values.as_mut_ptr(),
+            room.values.len(),
+            room.out.as_mut_ptr(),
+            room.out.len(),
+            answer.as_mut_ptr(),
+            answer.len(),
+        )
+    });
+    (passes, accepted.map(|()| size(&answer)))
 }

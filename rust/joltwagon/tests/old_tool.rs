@@ -145,6 +145,12 @@ fn passes() {
     let mut labels = [0, 0x55, 0];
     assert_eq!(raw::settle(&[bra, nop].concat(), &[], &nodes, &mut labels), (2, Ok(())));
     assert_eq!(labels, [1, 2, 0]);
+    let (mut objects, mut values, mut out) = ([0; 6], [0; 6], [0; 64]);
+    let room = raw::Room { objects: &mut objects, values: &mut values, out: &mut out };
+    assert_eq!(raw::hex(&[bra, nop].concat(), &[], &nodes, &mut labels, room), (2, Ok(30)));
+    assert_eq!(&out[..30], b":03000000200012CB\n:00000001FF\n");
+    let room = raw::Room { objects: &mut objects, values: &mut values, out: &mut out[..29] };
+    assert_eq!(raw::hex(&[bra, nop].concat(), &[], &nodes, &mut labels, room), (2, Err(Refused(9))));
     assert_eq!(raw::settle(&bra, &[], &nodes, &mut labels), (2, Err(Refused(10))));
     assert_eq!(labels, [1, 2, 0]);
 }
