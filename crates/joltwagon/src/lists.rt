@@ -2,7 +2,6 @@
 use answers::hand;
 use answers::late;
 use answers::size;
-ghost use mathlib.Core.Path.{_≡_};
 ghost use Rattle.joltwagon.specs.Lists.{ListLaid};
 
 // Lays the list into the front of a buffer. An answer's slice that is too short is found before anything is stored.
