@@ -1,18 +1,31 @@
 -- The row that a build hands out is read as the instruction that it handed back.
 -- Assumes nothing.
 use mathlib.Core.Path.{_≡_, refl}
-use mathlib.Core.Bool.{Bool, true, false}
+use mathlib.Core.Bool.{Bool, true, false, not, _&&_, true≢false}
 use mathlib.Core.List.{List, [], _∷_}
-use Prim.Native.Nat.{ℕ, _<_}
+use Prim.Native.Nat.{ℕ, zero, suc, _<_}
 use native.Mathlib.Omega.{arith}
-use borrow.Author.Tests.{lt-ltb}
-use lib.Dec.{eqb, leb}
+use borrow.Author.Tests.{eqb-true, eqb-false, lt-ltb, ltb-true}
+use lib.Dec.{eqb, leb, ltb}
 use lib.ListN.{length, getD}
 use Rattle.ground.specs.Choice.{pick}
+use Rattle.ground.proofs.Choices.{by-test, by-pick}
+use Rattle.ground.proofs.Tests.{neither-left}
 use Rattle.answers.specs.Sizes.{flagCell}
+use Rattle.rows.specs.Lookup.{hasFormOf}
+use Rattle.rows.proofs.Codes.{form-small}
+use Rattle.instruction.specs.declared.Operand.{Operand}
+use Rattle.instruction.specs.declared.Values.{Values}
 use Rattle.instruction.specs.declared.Instruction.{Instruction}
-use Rattle.entries.specs.Entries.{byteIn, isFlag, flagIn, flaggedIn, registersIn, operandOf}
-use Rattle.joltwagon.specs.Kept.{isKept, keptOf, keptCells, Small}
+use Rattle.instruction.specs.declared.Made.{Made}
+use Rattle.instruction.specs.declared.Built.{Built}
+use Rattle.instruction.specs.Records.{recognised, lawful}
+use Rattle.instruction.specs.Forms.{formOf, lacks, strays}
+use Rattle.instruction.specs.Choosing.{chooseOf}
+use Rattle.instruction.specs.Building.{instructionOf, madeAs, makeOf, acceptedOf, buildOf, handed, freshFrom, freshOf}
+use Rattle.instruction.proofs.Fits.{build-chosen}
+use Rattle.entries.specs.Entries.{byteIn, isFlag, flagIn, flaggedIn, registersIn, operandOf, allFlagged, toldIn, entryOf}
+use Rattle.joltwagon.specs.Kept.{isKept, keptOf, keptCells}
 
 flag-back : (b : Bool) → eqb (flagCell b) 1 ≡ b
 unfolding flagCell pick
@@ -45,6 +58,16 @@ eight-of (a ∷ b ∷ c ∷ d ∷ e ∷ f ∷ g ∷ []) h = absurd (omega arith)
 eight-of (a ∷ b ∷ c ∷ d ∷ e ∷ f ∷ g ∷ k ∷ []) h = refl
 eight-of (a ∷ b ∷ c ∷ d ∷ e ∷ f ∷ g ∷ k ∷ m ∷ l) h = absurd (omega arith)
 
+-- an instruction's numbers are of 8 bits, and its registers are eight
+record Small (i : Instruction) : Type 0 where
+  operation : i .operand .operation < 256
+  mode : i .operand .mode < 256
+  step : i .operand .step < 256
+  count : i .operand .count < 256
+  form : i .form < 256
+  eight : length (i .operand .registers) ≡ 8
+  registers : (k : ℕ) → getD (i .operand .registers) k 0 < 256
+
 module _ (i : Instruction) (s : Small i) where
   registers-back : registersIn (keptCells i) ≡ i .operand .registers
   unfolding registersIn keptCells
@@ -75,6 +98,117 @@ module _ (i : Instruction) (s : Small i) where
         registers-back,
       )
 
-  pub kept-back : keptOf (keptCells i) ≡ i
+  kept-back : keptOf (keptCells i) ≡ i
   unfolding keptOf keptCells flagIn
   kept-back = rw (operand-back, byte-back (keptCells i) 15 (s .form), flag-back (i .trial), flag-back (i .widened))
+
+-- ---- so it is with every instruction that a call hands out
+byte-small : (row : List ℕ) (at : ℕ) → byteIn row at < 256
+unfolding byteIn
+byte-small row at =
+    by-test (λ (n : ℕ). n < 256) (ltb (getD row at 0) 256) (λ t. ltb-true (getD row at 0) 256 t) (λ _. omega arith)
+
+not-false : (b : Bool) → not b ≡ false → b ≡ true
+not-false true e = refl
+not-false false e = absurd (true≢false e)
+
+registers-small : (row : List ℕ) (k : ℕ) → getD (registersIn row) k 0 < 256
+unfolding registersIn
+registers-small row zero = byte-small row 7
+registers-small row (suc zero) = byte-small row 8
+registers-small row (suc (suc zero)) = byte-small row 9
+registers-small row (suc (suc (suc zero))) = byte-small row 10
+registers-small row (suc (suc (suc (suc zero)))) = byte-small row 11
+registers-small row (suc (suc (suc (suc (suc zero))))) = byte-small row 12
+registers-small row (suc (suc (suc (suc (suc (suc zero)))))) = byte-small row 13
+registers-small row (suc (suc (suc (suc (suc (suc (suc zero))))))) = byte-small row 14
+registers-small row (suc (suc (suc (suc (suc (suc (suc (suc k)))))))) = omega arith
+
+kept-small : (row : List ℕ) → Small (keptOf row)
+unfolding keptOf operandOf registersIn
+kept-small row = record {
+  operation = byte-small row 0;
+  mode = byte-small row 1;
+  step = byte-small row 4;
+  count = byte-small row 6;
+  form = byte-small row 15;
+  eight = refl;
+  registers = registers-small row;
+}
+
+-- one that was made, of a known operation or not: a form that is not lacking is one of seven
+lacking-none : (o : Operand) (form : ℕ) → lacks o form ≡ false → form < 7
+unfolding lacks
+lacking-none o form e =
+    form-small (o .operation) form
+    (not-false (hasFormOf (o .operation) form) (neither-left (not (hasFormOf (o .operation) form)) (strays (o .mode) form) e))
+
+formed-small : (row : List ℕ) (form : ℕ) → form < 7 → Small (instructionOf (toldIn row) form)
+unfolding keptOf toldIn instructionOf
+formed-small row form h =
+    let s = kept-small row in
+    by-pick (λ (o : Operand). Small (instructionOf o form)) (allFlagged row)
+    (record { operation = s .operation; mode = s .mode; step = s .step; count = s .count; form = omega arith; eight = s .eight; registers = s .registers })
+    (record { operation = omega arith; mode = s .mode; step = s .step; count = s .count; form = omega arith; eight = s .eight; registers = s .registers })
+
+made-small : (row : List ℕ) → makeOf (entryOf row) .refusal ≡ 0 → Small (makeOf (entryOf row) .instruction)
+unfolding makeOf madeAs entryOf
+made-small row =
+    let o = toldIn row in
+    let r = entryOf row in
+    let form = formOf o (r .values) (r .dirty) in
+    let P : Made → Type 0 = λ m. m .refusal ≡ 0 → Small (m .instruction) in
+    by-test P (recognised o && lawful (r .values))
+    (λ _. by-test P (lacks o form) (λ _ z. absurd (omega arith)) (λ t _. formed-small row form (lacking-none o form t)))
+    (λ _ z. absurd (omega arith))
+
+-- one that was built
+module _ (i : Instruction) (v : Values) (dirty : Bool) (address : ℕ) (s : Small i) where
+  built-small : buildOf i v dirty address .refusal ≡ 0 → Small (buildOf i v dirty address .instruction)
+  unfolding acceptedOf
+  built-small e =
+      let b = build-chosen i v dirty address e in
+      let c = chooseOf i v dirty address in
+      let h : c .form < 7 = form-small (c .operation) (c .form) (b .fits .row) in
+      rw (b .built) (record {
+        operation = s .operation;
+        mode = s .mode;
+        step = s .step;
+        count = s .count;
+        form = omega arith;
+        eight = s .eight;
+        registers = s .registers;
+      })
+
+  handed-small : handed (buildOf i v dirty address) .refusal ≡ 0 → Small (handed (buildOf i v dirty address) .instruction)
+  unfolding handed
+  handed-small =
+      let P : Built → Type 0 = λ b. b .refusal ≡ 0 → Small (b .instruction) in
+      let b = buildOf i v dirty address in
+      by-test P (eqb (b .refusal) 0) (λ _ z. built-small z) (λ t z. absurd (eqb-false (b .refusal) 0 t z))
+
+fresh-small : (row : List ℕ) (address : ℕ) → freshOf (entryOf row) address .refusal ≡ 0 → Small (freshOf (entryOf row) address .instruction)
+unfolding freshOf freshFrom
+fresh-small row address =
+    let P : Built → Type 0 = λ b. b .refusal ≡ 0 → Small (b .instruction) in
+    let r = entryOf row in
+    let m = makeOf r in
+    by-test P (eqb (m .refusal) 0)
+    (λ t z. handed-small (m .instruction) (r .values) (r .dirty) address (made-small row (eqb-true (m .refusal) 0 t)) z)
+    (λ t z. absurd (eqb-false (m .refusal) 0 t z))
+
+-- so the row of each is read as the instruction
+pub made-again :
+    (row : List ℕ) → makeOf (entryOf row) .refusal ≡ 0 →
+    keptOf (keptCells (makeOf (entryOf row) .instruction)) ≡ makeOf (entryOf row) .instruction
+made-again row e = kept-back _ (made-small row e)
+
+pub fresh-again :
+    (row : List ℕ) (address : ℕ) → freshOf (entryOf row) address .refusal ≡ 0 →
+    keptOf (keptCells (freshOf (entryOf row) address .instruction)) ≡ freshOf (entryOf row) address .instruction
+fresh-again row address e = kept-back _ (fresh-small row address e)
+
+pub built-again :
+    (row : List ℕ) (v : Values) (dirty : Bool) (address : ℕ) → buildOf (keptOf row) v dirty address .refusal ≡ 0 →
+    keptOf (keptCells (buildOf (keptOf row) v dirty address .instruction)) ≡ buildOf (keptOf row) v dirty address .instruction
+built-again row v dirty address e = kept-back _ (built-small (keptOf row) v dirty address (kept-small row) e)

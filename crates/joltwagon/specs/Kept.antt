@@ -1,6 +1,5 @@
 -- A kept instruction as a row of 18 cells, and what a build takes anew as one of 6 (docs/ROWS.md).
-use mathlib.Core.Path.{_≡_}
-use Prim.Native.Nat.{ℕ, _<_}
+use Prim.Native.Nat.{ℕ}
 use mathlib.Core.Bool.{Bool, _&&_}
 use mathlib.Core.List.{List, [], _∷_}
 use lib.Dec.{leb}
@@ -48,13 +47,3 @@ isPresent row = leb 6 (length row) && (isFlag row 0 && isFlag row 1)
 
 unfoldable pub presentOf : List ℕ → Values
 presentOf row = record { given = flagIn row 1; unsigned = valueIn row 2; signed = valueIn row 4 }
-
--- the numbers of an instruction that some code holds: each of 8 bits, and eight registers
-pub record Small (i : Instruction) : Type 0 where
-  pub operation : i .operand .operation < 256
-  pub mode : i .operand .mode < 256
-  pub step : i .operand .step < 256
-  pub count : i .operand .count < 256
-  pub form : i .form < 256
-  pub eight : length (i .operand .registers) ≡ 8
-  pub registers : (k : ℕ) → getD (i .operand .registers) k 0 < 256
