@@ -1,6 +1,7 @@
 // Which statement each label belongs to, and the label table before the first pass and after the last.
 use ground::buffers::store_cell;
 use ground::tables::cell;
+use statements::listing::NONE;
 use statements::listing::label_at;
 ghost use mathlib.Core.Path.{_≡_};
 ghost use Prim.Native.Nat.{_*_, _<_, _≤_, min};
@@ -8,8 +9,6 @@ ghost use lib.ListN.{replicate};
 ghost use Rattle.ground.specs.Stores.{put};
 ghost use Rattle.passes.specs.Labels.{rowsOf, illOf, begunTable, laidOver};
 ghost use Rattle.passes.specs.Steps.{bearersOf, lentOf, stateOf, rowOf};
-
-pub(crate) const NO_LABEL: u16 = 65535;
 
 const LAST_LABEL: u16 = 511;
 
@@ -45,7 +44,7 @@ pub(crate) fn is_ill(list: &[u16], firsts: &[u16], i: usize) -> bool
 {
     let label = label_at(list, i);
     let first = cell(firsts, label as usize);
-    (label != NO_LABEL) & ((LAST_LABEL < label) | (first != i as u16))
+    (label != NONE) & ((LAST_LABEL < label) | (first != i as u16))
 }
 
 // Every address is 0, and a label is defined if it is an expression or a statement bears it.

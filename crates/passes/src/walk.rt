@@ -1,11 +1,11 @@
 // One walk over the statements: each marks its label, has its effect, keeps its size, and moves the running address on.
-use crate::labels::NO_LABEL;
 use crate::labels::is_ill;
 use ground::buffers::store_cell;
 use ground::tables::cell;
 use statements::Effect;
 use statements::effects::counted;
 use statements::effects::effect;
+use statements::listing::NONE;
 use statements::listing::label_at;
 ghost use mathlib.Core.Path.{_≡_};
 ghost use mathlib.Core.Bool.{not};
@@ -58,7 +58,7 @@ impl State {
         ensures table { λ _. ⌜ now (labels .exit) ≡ markedLabels (now (list .entry)) i self (now (labels .entry)) ⌝ }
     {
         let label = label_at(list, i);
-        if (label != NO_LABEL) & !ill {
+        if (label != NONE) & !ill {
             return self.address(label as usize * 3 + 1, labels);
         }
         self
