@@ -14,36 +14,61 @@ impl LabelResolver for NoLabels {
     }
 }
 
-/// The record with its value evaluated anew, as the Rust's build does.
-fn evaluated(o: &Ours, i: usize) -> [u16; 21] {
-    let mut row = o.rows[i];
-    if let Some(node) = o.node[i] {
-        row[17..].copy_from_slice(&raw::node(&o.nodes, &[], node, ADDRESS).unwrap());
+/// Evaluates a record's node into the cells of its two values, as the Rust's build does.
+fn evaluate(nodes: &[u16], node: Option<u16>, values: &mut [u16]) {
+    if let Some(node) = node {
+        raw::node_into(nodes, &[], node, ADDRESS, values).unwrap();
     }
-    row
+}
+
+fn assemble(row: &[u16], answer: &mut [u16]) -> usize {
+    raw::assemble_into(row, ADDRESS, answer).unwrap();
+    answer[0] as usize
 }
 
 /// Every record, evaluated and built fresh; how many bytes that gives.
-pub fn fresh(o: &Ours) -> usize {
-    (0..o.rows.len()).map(|i| raw::assemble(&evaluated(o, i), ADDRESS).unwrap()[0] as usize).sum()
+pub fn fresh(o: &mut Ours) -> usize {
+    let mut answer = [0; raw::BUILT];
+    let mut length = 0;
+    for (row, node) in o.rows.iter_mut().zip(&o.node) {
+        evaluate(&o.nodes, *node, &mut row[17..]);
+        length += assemble(row, &mut answer);
+    }
+    length
 }
 
 /// Every record, whose values are given, built fresh.
 pub fn given(o: &Ours) -> usize {
-    o.rows.iter().map(|row| raw::assemble(row, ADDRESS).unwrap()[0] as usize).sum()
+    let mut answer = [0; raw::BUILT];
+    o.rows.iter().map(|row| assemble(row, &mut answer)).sum()
 }
 
-pub fn made(o: &Ours) -> Vec<[u16; 18]> {
-    o.rows.iter().map(|row| raw::make(row).unwrap()).collect()
+/// A kept instruction: two answers of a build, the last of which has its row, and what the next build takes anew.
+pub struct Kept {
+    answers: [[u16; raw::BUILT]; 2],
+    present: [u16; raw::PRESENT],
+    last: usize,
+}
+
+pub fn made(o: &Ours) -> Vec<Kept> {
+    let keep = |row: &[u16; 21]| {
+        let mut answers = [[0; raw::BUILT]; 2];
+        answers[0][7..].copy_from_slice(&raw::make(row).unwrap());
+        Kept { answers, present: row[15..].try_into().unwrap(), last: 0 }
+    };
+    o.rows.iter().map(keep).collect()
 }
 
 /// Every kept instruction, evaluated and built again.
-pub fn again(o: &Ours, kept: &mut [[u16; 18]]) -> usize {
+pub fn again(o: &Ours, kept: &mut [Kept]) -> usize {
     let mut length = 0;
-    for (i, row) in kept.iter_mut().enumerate() {
-        let answer = raw::build(row, &evaluated(o, i)[15..], ADDRESS).unwrap();
-        length += answer[0] as usize;
-        row.copy_from_slice(&answer[7..]);
+    for (k, node) in kept.iter_mut().zip(&o.node) {
+        evaluate(&o.nodes, *node, &mut k.present[2..]);
+        let (first, second) = k.answers.split_at_mut(1);
+        let (old, new) = if k.last == 0 { (&first[0], &mut second[0]) } else { (&second[0], &mut first[0]) };
+        raw::build_into(&old[7..], &k.present, ADDRESS, new).unwrap();
+        length += new[0] as usize;
+        k.last = 1 - k.last;
     }
     length
 }
@@ -76,10 +101,10 @@ pub fn image(o: &Ours) -> Vec<u8> {
 
 /// Both sides build as many bytes.
 pub fn agree() {
-    let o = records::ours();
+    let mut o = records::ours();
     let mut kept = Vec::new();
     let theirs = rust_fresh(records::theirs(), &mut kept);
-    assert_eq!(fresh(&o), theirs);
+    assert_eq!(fresh(&mut o), theirs);
     assert_eq!(given(&o), theirs);
     assert_eq!(again(&o, &mut made(&o)), theirs);
     assert_eq!(rust_again(&mut kept), theirs);

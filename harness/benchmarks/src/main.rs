@@ -47,8 +47,10 @@ fn data(size: usize) -> Data {
 
 fn run_length(bytes: &[u8]) -> usize {
     let (mut at, mut count) = (0, 0);
+    let mut answer = [0; raw::READ];
     while at < bytes.len() {
-        at += raw::next(bytes, 0, at).unwrap()[0] as usize;
+        raw::next_into(bytes, 0, at, &mut answer).unwrap();
+        at += answer[0] as usize;
         count += 1;
     }
     count
@@ -64,6 +66,7 @@ fn table(title: &str, unit: &str, per: usize, times: &[(String, f64)]) {
 
 fn compare_builds(d: &Data) {
     let n = records::HOW_MANY;
+    let mut ours = records::ours();
     let mut kept = building::made(&d.ours);
     let mut rust_kept = Vec::new();
     building::rust_fresh(records::theirs(), &mut rust_kept);
@@ -76,7 +79,7 @@ fn compare_builds(d: &Data) {
         *operands.borrow_mut() = (0..times).map(|_| records::theirs()).collect();
     };
     let times = race(vec![
-        rival("this library: jw_node and jw_assemble", || { black_box(building::fresh(&d.ours)); }),
+        rival("this library: jw_node and jw_assemble", || { black_box(building::fresh(&mut ours)); }),
         rival("this library: jw_assemble, values given", || { black_box(building::given(&d.ours)); }),
         prepared("the Rust: try_new and build", ahead, || {
             let operands = operands.borrow_mut().pop().unwrap();
@@ -179,7 +182,7 @@ fn passes() {
 
 /// One piece of work, so often. The Rust's fresh builds count the making of their operands, which `operands` counts alone.
 fn repeat(work: &str, times: usize) {
-    let d = data(LONGEST / 16);
+    let mut d = data(LONGEST / 16);
     let (mut out, mut bytes, mut runs) = (vec![0; d.text.len()], vec![0; d.image.len()], vec![0; 2]);
     let mut kept = building::made(&d.ours);
     let mut program = settling::program(records::HOW_MANY);
@@ -188,7 +191,7 @@ fn repeat(work: &str, times: usize) {
     building::rust_fresh(records::theirs(), &mut instructions);
     for _ in 0..times {
         black_box(match work {
-            "fresh" => building::fresh(&d.ours),
+            "fresh" => building::fresh(&mut d.ours),
             "given" => building::given(&d.ours),
             "again" => building::again(&d.ours, &mut kept),
             "operands" => std::mem::ManuallyDrop::new(records::theirs()).len(),

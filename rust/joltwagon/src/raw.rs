@@ -31,13 +31,19 @@ mod c {
     }
 }
 
-/// A call that answers in `N` cells.
-fn asked<const N: usize>(call: impl FnOnce(*mut u16, usize) -> u8) -> Result<[u16; N]> {
-    let mut answer = [0; N];
-    match call(answer.as_mut_ptr(), N) {
-        0 => Ok(answer),
+/// What a call's number says.
+fn accepted(number: u8) -> Result<()> {
+    match number {
+        0 => Ok(()),
         number => Err(Refused(number)),
     }
+}
+
+/// A call that answers in `N` cells.
+fn asked<const N: usize>(call: impl FnOnce(&mut [u16]) -> Result<()>) -> Result<[u16; N]> {
+    let mut answer = [0; N];
+    call(&mut answer)?;
+    Ok(answer)
 }
 
 /// A size: four cells, the lowest first. What it counts is in memory, so it fits.
@@ -46,41 +52,58 @@ fn size(cells: &[u16]) -> usize {
 }
 
 pub fn make(record: &[u16]) -> Result<[u16; KEPT]> {
-    asked(|p, n| unsafe { c::jw_make(record.as_ptr(), record.len(), p, n) })
+    asked(|answer| accepted(unsafe { c::jw_make(record.as_ptr(), record.len(), answer.as_mut_ptr(), answer.len()) }))
+}
+
+/// Into the front of a slice of the caller's, which saves a copy where there are many; so do the other functions of such names.
+pub fn assemble_into(record: &[u16], address: u16, answer: &mut [u16]) -> Result<()> {
+    accepted(unsafe { c::jw_assemble(record.as_ptr(), record.len(), address, answer.as_mut_ptr(), answer.len()) })
 }
 
 pub fn assemble(record: &[u16], address: u16) -> Result<[u16; BUILT]> {
-    asked(|p, n| unsafe { c::jw_assemble(record.as_ptr(), record.len(), address, p, n) })
+    asked(|answer| assemble_into(record, address, answer))
+}
+
+pub fn build_into(kept: &[u16], present: &[u16], address: u16, answer: &mut [u16]) -> Result<()> {
+    accepted(unsafe { c::jw_build(kept.as_ptr(), kept.len(), present.as_ptr(), present.len(), address, answer.as_mut_ptr(), answer.len()) })
 }
 
 pub fn build(kept: &[u16], present: &[u16], address: u16) -> Result<[u16; BUILT]> {
-    asked(|p, n| unsafe { c::jw_build(kept.as_ptr(), kept.len(), present.as_ptr(), present.len(), address, p, n) })
+    asked(|answer| build_into(kept, present, address, answer))
 }
 
 /// How many bytes now stand at the front of `out`.
 pub fn lay(list: &[u16], address: u16, out: &mut [u8]) -> Result<usize> {
-    let cells = asked::<4>(|p, n| unsafe { c::jw_lay(list.as_ptr(), list.len(), address, out.as_mut_ptr(), out.len(), p, n) })?;
+    let cells = asked::<4>(|answer| accepted(unsafe { c::jw_lay(list.as_ptr(), list.len(), address, out.as_mut_ptr(), out.len(), answer.as_mut_ptr(), answer.len()) }))?;
     Ok(size(&cells))
 }
 
 pub fn decode(bytes: &[u8], address: u16) -> Result<[u16; READ]> {
-    asked(|p, n| unsafe { c::jw_decode(bytes.as_ptr(), bytes.len(), address, p, n) })
+    asked(|answer| accepted(unsafe { c::jw_decode(bytes.as_ptr(), bytes.len(), address, answer.as_mut_ptr(), answer.len()) }))
+}
+
+pub fn next_into(bytes: &[u8], address: u16, at: usize, answer: &mut [u16]) -> Result<()> {
+    accepted(unsafe { c::jw_next(bytes.as_ptr(), bytes.len(), address, at, answer.as_mut_ptr(), answer.len()) })
 }
 
 pub fn next(bytes: &[u8], address: u16, at: usize) -> Result<[u16; READ]> {
-    asked(|p, n| unsafe { c::jw_next(bytes.as_ptr(), bytes.len(), address, at, p, n) })
+    asked(|answer| next_into(bytes, address, at, answer))
 }
 
 pub fn count(bytes: &[u8], address: u16) -> Result<usize> {
-    asked::<4>(|p, n| unsafe { c::jw_count(bytes.as_ptr(), bytes.len(), address, p, n) }).map(|cells| size(&cells))
+    asked::<4>(|answer| accepted(unsafe { c::jw_count(bytes.as_ptr(), bytes.len(), address, answer.as_mut_ptr(), answer.len()) })).map(|cells| size(&cells))
+}
+
+pub fn node_into(nodes: &[u16], labels: &[u16], node: u16, location: u16, answer: &mut [u16]) -> Result<()> {
+    accepted(unsafe { c::jw_node(nodes.as_ptr(), nodes.len(), labels.as_ptr(), labels.len(), node, location, answer.as_mut_ptr(), answer.len()) })
 }
 
 pub fn node(nodes: &[u16], labels: &[u16], node: u16, location: u16) -> Result<[u16; 4]> {
-    asked(|p, n| unsafe { c::jw_node(nodes.as_ptr(), nodes.len(), labels.as_ptr(), labels.len(), node, location, p, n) })
+    asked(|answer| node_into(nodes, labels, node, location, answer))
 }
 
 pub fn label(nodes: &[u16], labels: &[u16], label: u16) -> Result<[u16; 2]> {
-    asked(|p, n| unsafe { c::jw_label(nodes.as_ptr(), nodes.len(), labels.as_ptr(), labels.len(), label, p, n) })
+    asked(|answer| accepted(unsafe { c::jw_label(nodes.as_ptr(), nodes.len(), labels.as_ptr(), labels.len(), label, answer.as_mut_ptr(), answer.len()) }))
 }
 
 pub fn move_labels(labels: &mut [u16], left: u16, right: u16, by: u16) {
@@ -88,32 +111,29 @@ pub fn move_labels(labels: &mut [u16], left: u16, right: u16, by: u16) {
 }
 
 pub fn add_segment(segments: &mut [u16], start: u16) -> Result<()> {
-    match unsafe { c::jw_add_segment(segments.as_mut_ptr(), segments.len(), start) } {
-        0 => Ok(()),
-        number => Err(Refused(number)),
-    }
+    accepted(unsafe { c::jw_add_segment(segments.as_mut_ptr(), segments.len(), start) })
 }
 
 pub fn segment_of(segments: &[u16], address: u16) -> Result<[u16; 2]> {
-    asked(|p, n| unsafe { c::jw_segment_of(segments.as_ptr(), segments.len(), address, p, n) })
+    asked(|answer| accepted(unsafe { c::jw_segment_of(segments.as_ptr(), segments.len(), address, answer.as_mut_ptr(), answer.len()) }))
 }
 
 pub fn text_size(objects: &[u16], values: &[u16]) -> Result<usize> {
-    asked::<4>(|p, n| unsafe { c::jw_text_size(objects.as_ptr(), objects.len(), values.as_ptr(), values.len(), p, n) }).map(|cells| size(&cells))
+    asked::<4>(|answer| accepted(unsafe { c::jw_text_size(objects.as_ptr(), objects.len(), values.as_ptr(), values.len(), answer.as_mut_ptr(), answer.len()) })).map(|cells| size(&cells))
 }
 
 /// The length of the text that now stands at the front of `out`.
 pub fn write_text(objects: &[u16], values: &[u16], out: &mut [u8]) -> Result<usize> {
-    let cells = asked::<4>(|p, n| unsafe {
-        c::jw_write_text(objects.as_ptr(), objects.len(), values.as_ptr(), values.len(), out.as_mut_ptr(), out.len(), p, n)
+    let cells = asked::<4>(|answer| {
+        accepted(unsafe { c::jw_write_text(objects.as_ptr(), objects.len(), values.as_ptr(), values.len(), out.as_mut_ptr(), out.len(), answer.as_mut_ptr(), answer.len()) })
     })?;
     Ok(size(&cells))
 }
 
 /// How many bytes and how many runs now stand at the fronts of the two.
 pub fn read_text(text: &[u8], bytes: &mut [u8], runs: &mut [u16]) -> Result<(usize, usize)> {
-    let cells = asked::<8>(|p, n| unsafe {
-        c::jw_read_text(text.as_ptr(), text.len(), bytes.as_mut_ptr(), bytes.len(), runs.as_mut_ptr(), runs.len(), p, n)
+    let cells = asked::<8>(|answer| {
+        accepted(unsafe { c::jw_read_text(text.as_ptr(), text.len(), bytes.as_mut_ptr(), bytes.len(), runs.as_mut_ptr(), runs.len(), answer.as_mut_ptr(), answer.len()) })
     })?;
     Ok((size(&cells[..4]), size(&cells[4..])))
 }
@@ -121,7 +141,7 @@ pub fn read_text(text: &[u8], bytes: &mut [u8], runs: &mut [u16]) -> Result<(usi
 /// The passes made, and the refusal if there is one.
 fn returned(number: u16) -> (u8, Result<()>) {
     let [refusal, passes] = number.to_le_bytes();
-    (passes, if refusal == 0 { Ok(()) } else { Err(Refused(refusal)) })
+    (passes, accepted(refusal))
 }
 
 /// The number of passes made, beside a refusal too, and whether the label table now has the addresses.
