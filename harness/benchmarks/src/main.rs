@@ -3,6 +3,10 @@
 mod building;
 mod capstone;
 mod clock;
+// Not all of the numbers are in the mix.
+#[allow(dead_code)]
+#[path = "../../oracle/src/numbers.rs"]
+mod numbers;
 mod records;
 mod settling;
 mod texts;

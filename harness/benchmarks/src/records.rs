@@ -1,28 +1,13 @@
 //! The records that both sides build: a plain mix of a firmware's instructions, each accepted by both.
-use coco::instructions::{self, AddressingMode, Descriptor};
-use coco::parse::{IncDecType, OperandDescriptor, Token, TokenType, ValueNode};
-use coco::u8u16;
+use crate::numbers::mode::*;
+use crate::numbers::register::*;
+use crate::numbers::{mode_of, step_of, value_of};
+use coco::instructions::{self, Descriptor};
+use coco::parse::{OperandDescriptor, Token, TokenType, ValueNode};
 use joltwagon::Operation;
 
-const A: u16 = 0;
-const B: u16 = 1;
-const X: u16 = 3;
-const Y: u16 = 4;
-const U: u16 = 5;
-const S: u16 = 6;
-const PC: u16 = 7;
-const NAMES: [&str; 10] = ["A", "B", "D", "X", "Y", "U", "S", "PC", "CC", "DP"];
-
-const REGISTER: u16 = 0;
-const OFFSET: u16 = 1;
-const PC_RELATIVE: u16 = 2;
-const INC_DEC: u16 = 3;
-const EXTENDED: u16 = 4;
-const IMMEDIATE: u16 = 6;
-const INHERENT: u16 = 7;
-
 /// Name, mode, indirect, step, registers, and a number with its width (0 for none).
-type Line = (&'static str, u16, bool, u16, &'static [u16], u16, u16);
+type Line = (&'static str, u8, bool, u8, &'static [u8], u16, u8);
 
 const MIX: [Line; 24] = [
     ("LDA", IMMEDIATE, false, 0, &[], 0x05, 8),
@@ -71,28 +56,16 @@ pub fn ours() -> Ours {
     let mut made = Ours { rows: Vec::new(), nodes: Vec::new(), node: Vec::new() };
     for &(name, mode, indirect, step, registers, number, width) in all() {
         let mut row = [0; 21];
-        row[..7].copy_from_slice(&[Operation::named(name).unwrap().0, mode, indirect as u16, 0, step, 1, registers.len() as u16]);
-        row[7..7 + registers.len()].copy_from_slice(registers);
+        row[..7].copy_from_slice(&[Operation::named(name).unwrap().0, mode as u16, indirect as u16, 0, step as u16, 1, registers.len() as u16]);
+        row[7..].iter_mut().zip(registers).for_each(|(cell, &r)| *cell = r as u16);
         made.node.push((width != 0).then_some((made.nodes.len() / 3) as u16));
         if width != 0 {
-            row[16..].copy_from_slice(&[1, number, width, number, width]);
+            row[16..].copy_from_slice(&[1, number, width as u16, number, width as u16]);
             made.nodes.extend([0, number, 0]);
         }
         made.rows.push(row);
     }
     made
-}
-
-fn mode_of(mode: u16) -> AddressingMode {
-    match mode {
-        REGISTER => AddressingMode::Register,
-        OFFSET => AddressingMode::Offset,
-        PC_RELATIVE => AddressingMode::PCRelative,
-        INC_DEC => AddressingMode::IncDec,
-        EXTENDED => AddressingMode::Extended,
-        IMMEDIATE => AddressingMode::Immediate,
-        _ => AddressingMode::Inherent,
-    }
 }
 
 pub fn theirs() -> Vec<(&'static Descriptor, OperandDescriptor)> {
@@ -101,13 +74,9 @@ pub fn theirs() -> Vec<(&'static Descriptor, OperandDescriptor)> {
         let mut od = OperandDescriptor::new();
         od.mode = mode_of(mode);
         od.indirect = indirect;
-        od.incdec = match step {
-            1 => Some(IncDecType::Inc),
-            2 => Some(IncDecType::IncInc),
-            _ => None,
-        };
+        od.incdec = step_of(step);
         od.regs = (!registers.is_empty()).then(|| registers.iter().map(|&r| NAMES[r as usize].to_string()).collect());
-        let value = if width == 8 { u8u16::u8(number as u8) } else { u8u16::u16(number) };
+        let value = value_of(number, width);
         od.value = (width != 0).then(|| ValueNode::new(Token::new(TokenType::Number, number.to_string(), Some(value)), false, None, None));
         (instructions::name_to_descriptor(name).unwrap(), od)
     };

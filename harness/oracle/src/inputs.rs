@@ -1,4 +1,6 @@
 //! What is asked: an operand, and one or more builds of the instruction made of it. Numbers are those of docs/ROWS.md.
+pub use crate::numbers::{mode, register};
+
 #[derive(Clone, Copy, PartialEq, Eq, Debug)]
 pub struct Value {
     pub number: u16,
@@ -45,17 +47,6 @@ impl Answer {
     }
 }
 
-pub mod mode {
-    pub const REGISTER: u8 = 0;
-    pub const OFFSET: u8 = 1;
-    pub const PC_RELATIVE: u8 = 2;
-    pub const INC_DEC: u8 = 3;
-    pub const EXTENDED: u8 = 4;
-    pub const DIRECT: u8 = 5;
-    pub const IMMEDIATE: u8 = 6;
-    pub const INHERENT: u8 = 7;
-}
-
 pub mod form {
     pub const INHERENT: u8 = 0;
     pub const IMMEDIATE: u8 = 1;
@@ -64,17 +55,4 @@ pub mod form {
     pub const EXTENDED: u8 = 4;
     pub const RELATIVE: u8 = 5;
     pub const REGISTER: u8 = 6;
-}
-
-pub mod register {
-    pub const A: u8 = 0;
-    pub const B: u8 = 1;
-    pub const D: u8 = 2;
-    pub const X: u8 = 3;
-    pub const Y: u8 = 4;
-    pub const U: u8 = 5;
-    pub const S: u8 = 6;
-    pub const PC: u8 = 7;
-    pub const DP: u8 = 9;
-    pub const NAMES: [&str; 10] = ["A", "B", "D", "X", "Y", "U", "S", "PC", "CC", "DP"];
 }

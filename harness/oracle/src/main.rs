@@ -12,6 +12,7 @@ mod judged;
 #[cfg(library)]
 mod library;
 mod list;
+mod numbers;
 mod original;
 mod questions;
 mod rows;

@@ -1,10 +1,11 @@
 //! The Rust's own answers: builds, texts of object lists, label moves, segments.
 use crate::differences::EXIT;
 use crate::inputs::{form, mode, register, Answer, Build, Operand, Sequence, Value};
+use crate::numbers::{mode_of, step_of, value_of};
 use crate::rows::Rows;
 use coco::instructions::{self, AddressingMode, Descriptor};
 use coco::obj::{BinaryObject, Instruction, ObjectProducer};
-use coco::parse::{IncDecType, LabelResolver, OperandDescriptor, Token, TokenType, ValueNode};
+use coco::parse::{LabelResolver, OperandDescriptor, Token, TokenType, ValueNode};
 use coco::program::{Program, ProgramLine};
 use coco::{config, u8u16, Error};
 use std::cell::Cell;
@@ -26,14 +27,6 @@ impl LabelResolver for Pair {
     }
 }
 
-fn given(v: Value) -> u8u16 {
-    if v.width == 8 {
-        u8u16::u8(v.number as u8)
-    } else {
-        u8u16::u16(v.number)
-    }
-}
-
 fn negated(v: u8u16) -> u8u16 {
     match v {
         u8u16::u8(b) => u8u16::u8(b.wrapping_neg()),
@@ -48,7 +41,7 @@ impl Pair {
 
     /// The signed evaluation widens an 8-bit value of 128 and more unless the node is negated: then both are handed over negated.
     fn arm(&self, node: &mut ValueNode, (u, s): (Value, Value)) {
-        let (u, s) = (given(u), given(s));
+        let (u, s) = (value_of(u.number, u.width), value_of(s.number, s.width));
         node.negate = s.is_u8() && s.u8() >= 128;
         self.asked.set(0);
         self.unsigned.set(if node.negate { negated(u) } else { u });
@@ -63,19 +56,6 @@ pub struct Original {
     descriptors: Vec<Option<&'static Descriptor>>,
 }
 
-fn mode_of(number: u8) -> AddressingMode {
-    match number {
-        mode::REGISTER => AddressingMode::Register,
-        mode::OFFSET => AddressingMode::Offset,
-        mode::PC_RELATIVE => AddressingMode::PCRelative,
-        mode::INC_DEC => AddressingMode::IncDec,
-        mode::EXTENDED => AddressingMode::Extended,
-        mode::DIRECT => AddressingMode::Direct,
-        mode::IMMEDIATE => AddressingMode::Immediate,
-        _ => AddressingMode::Inherent,
-    }
-}
-
 /// The form by docs/ROWS.md of the Rust's run-time mode: lists of registers are Immediate there.
 fn form_of(rust: AddressingMode, lists: bool) -> u8 {
     match rust {
@@ -86,16 +66,6 @@ fn form_of(rust: AddressingMode, lists: bool) -> u8 {
         AddressingMode::Indexed => form::INDEXED,
         AddressingMode::Extended => form::EXTENDED,
         _ => form::RELATIVE,
-    }
-}
-
-fn step_of(number: u8) -> Option<IncDecType> {
-    match number {
-        1 => Some(IncDecType::Inc),
-        2 => Some(IncDecType::IncInc),
-        3 => Some(IncDecType::Dec),
-        4 => Some(IncDecType::DecDec),
-        _ => None,
     }
 }
 
@@ -221,7 +191,7 @@ impl ObjectProducer for Finished {
 }
 
 fn line_of(object: &Object) -> ProgramLine {
-    let data = object.values.as_ref().map(|values| values.iter().map(|&v| given(v)).collect());
+    let data = object.values.as_ref().map(|values| values.iter().map(|v| value_of(v.number, v.width)).collect());
     let mut finished = BinaryObject { addr: object.address, is_static_addr: false, size: 0, data };
     finished.calc_size();
     let obj: Option<Box<dyn ObjectProducer>> = Some(Box::new(Finished(finished)));
