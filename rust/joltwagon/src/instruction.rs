@@ -60,9 +60,13 @@ impl OperandDescriptor {
 
 /// The page and the values of one build.
 fn present(value: Option<NodeId>, addr: u16, labels: &ProgramLabels, dp_dirty: bool) -> Result<[u16; raw::PRESENT]> {
-    let Some(node) = value else { return Ok([dp_dirty as u16, 0, 0, 0, 0, 0]) };
-    let (u, s) = labels.eval(node, addr)?;
-    Ok([dp_dirty as u16, 1, u.number, u.width as u16, s.number, s.width as u16])
+    match value {
+        None => Ok([dp_dirty as u16, 0, 0, 0, 0, 0]),
+        Some(node) => {
+            let (u, s) = labels.eval(node, addr)?;
+            Ok([dp_dirty as u16, 1, u.number, u.width as u16, s.number, s.width as u16])
+        }
+    }
 }
 
 fn record(id: Operation, od: &OperandDescriptor, widening: bool) -> [u16; raw::RECORD] {

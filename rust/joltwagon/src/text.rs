@@ -22,9 +22,12 @@ pub fn write_hex(objects: &[BinaryObject]) -> Result<String> {
     let mut rows = Vec::new();
     let mut values = Vec::new();
     for object in objects {
-        let Some(data) = &object.data else {
-            rows.extend([0, object.addr, 0]);
-            continue;
+        let data = match &object.data {
+            Some(data) => data,
+            None => {
+                rows.extend([0, object.addr, 0]);
+                continue;
+            }
         };
         // One of no length ends a record too. A row counts to 65535, so a longer one goes as two.
         if data.is_empty() {
