@@ -1,7 +1,8 @@
--- The sizes that the code takes from an operation's number are those that the sheet's codes have: tests over all operations, which antt computes.
+-- The sizes and the forms that the code takes from an operation's number are those that the sheet's codes have: tests over all operations, which
+-- antt computes.
 -- Assumes nothing.
 use mathlib.Core.Path.{_≡_, _∙_, refl, sym, ap}
-use mathlib.Core.Bool.{Bool, true, false}
+use mathlib.Core.Bool.{Bool, true, false, _&&_, not}
 use mathlib.Core.List.{List, [], _∷_}
 use Prim.Native.Nat.{ℕ, _+_, _<_, _≤_}
 use native.Mathlib.Omega.{arith}
@@ -13,11 +14,11 @@ use Rattle.ground.proofs.Ranges.{upto, below}
 use Rattle.rows.specs.declared.Coded.{Coded}
 use Rattle.rows.specs.declared.Coded.the-variants.{Code, Unknown, Missing}
 use Rattle.rows.specs.Sheet.{tableOf, page0, page10, page11}
-use Rattle.rows.specs.Lookup.{mergedOf, knownOf, codeOf, forms}
+use Rattle.rows.specs.Lookup.{mergedOf, isCode, placed, hasFormOf, knownOf, codeOf, forms}
 use Rattle.rows.specs.Sizes.{isWide, isLong, numberAt, ofCode, numberSizeOf, leastAt, lesser, leastAmong, smallestSizeOf, longFrom}
-use Rattle.rows.specs.Quick.{look, placeOf, sixteenOf, nearOperation, pageOf, quickOn, wideOf, immediateBytes, memoryBytes, branchBytes, numberBytes, operandBytes, rowBytes}
+use Rattle.rows.specs.Quick.{look, placeOf, sixteenOf, nearOperation, pageOf, quickOn, wideOf, immediateBytes, memoryBytes, branchBytes, numberBytes, operandBytes, formedOf, rowBytes}
 use Rattle.rows.proofs.Codes.{placed-none, alike}
-use Rattle.rows.proofs.Quick.{quickKnown, known-quick, code-agrees}
+use Rattle.rows.proofs.Quick.{quickKnown, same-bool, known-quick, code-agrees}
 
 numberAgrees : ℕ → ℕ → Bool
 numberAgrees o form =
@@ -76,6 +77,43 @@ size-quick o h =
     rw (← known-quick o h)
     (eqb→eq (pick (quickKnown o) (rowBytes (mergedOf o)) 0) (leastQuick (mergedOf o) forms) (below sizeAgrees 256 sizes-agree o h)
     ∙ least-quick o h forms)
+
+formAgrees : ℕ → ℕ → Bool
+formAgrees o form =
+    pick (isCode (quickOn (mergedOf o) form)) (quickKnown o && formedOf (mergedOf o) form) (not (quickKnown o && formedOf (mergedOf o) form))
+
+forms-agree : T (upto (λ (o : ℕ). upto (formAgrees o) 7) 256)
+unfolding formAgrees formedOf wideOf immediateBytes memoryBytes branchBytes operandBytes quickOn mergedOf look pageOf sixteenOf nearOperation placeOf tableOf page0 page10 page11 pick
+forms-agree = tt
+
+no-form-formed : (o form : ℕ) → 7 ≤ form → formedOf o form ≡ false
+unfolding formedOf pick
+no-form-formed o form h =
+    rw (
+      ne-eqb form 0 (omega arith),
+      ne-eqb form 1 (omega arith),
+      ne-eqb form 2 (omega arith),
+      ne-eqb form 3 (omega arith),
+      ne-eqb form 4 (omega arith),
+      ne-eqb form 5 (omega arith),
+      ne-eqb form 6 (omega arith),
+    )
+
+either-false : (t : Bool) → (t && false) ≡ false
+either-false true = refl
+either-false false = refl
+
+pub form-quick : (o form : ℕ) → o < 256 → (knownOf o && formedOf (mergedOf o) form) ≡ hasFormOf o form
+unfolding formAgrees hasFormOf
+form-quick o form h = rw (← known-quick o h) (known (ltb form 7) refl)
+  where
+    known : (t : Bool) → ltb form 7 ≡ t → (quickKnown o && formedOf (mergedOf o) form) ≡ isCode (placed o form)
+    known true e =
+        same-bool (isCode (quickOn (mergedOf o) form)) (quickKnown o && formedOf (mergedOf o) form)
+        (below (formAgrees o) 7 (below (λ (n : ℕ). upto (formAgrees n) 7) 256 forms-agree o h) form (ltb-true form 7 e))
+        ∙ ap isCode (code-agrees o form h)
+    known false e =
+        rw (no-form-formed (mergedOf o) form (ltb-false form 7 e), placed-none o form (ltb-false form 7 e)) (either-false (quickKnown o))
 
 pub memory-small : (o : ℕ) → memoryBytes o ≤ 1
 unfolding memoryBytes

@@ -48,7 +48,7 @@ known-agrees : T (upto knownAgrees 256)
 unfolding knownAgrees knownOf hasFormOf placed mergedOf tableOf page0 page10 page11 pick
 known-agrees = tt
 
-same-bool : (a b : Bool) → T (pick a b (not b)) → b ≡ a
+pub same-bool : (a b : Bool) → T (pick a b (not b)) → b ≡ a
 unfolding pick
 same-bool true true t = refl
 same-bool true false t = absurd t

@@ -3,7 +3,7 @@
 use Prim.Native.Nat.{ℕ, _+_, _-_, _*_, _/_, _%_}
 use mathlib.Core.Bool.{Bool, true, false, _&&_, _||_, not}
 use mathlib.Core.List.{List, [], _∷_}
-use lib.Dec.{eqb, ltb}
+use lib.Dec.{eqb, leb, ltb}
 use lib.ListN.{getD, drop}
 use Rattle.ground.specs.Choice.{pick}
 use Rattle.rows.specs.declared.Found.{Found}
@@ -12,6 +12,7 @@ use Rattle.rows.specs.declared.Coded.{Coded}
 use Rattle.rows.specs.declared.Coded.the-variants.{Unknown, Missing}
 use Rattle.rows.specs.declared.Named.{Named}
 use Rattle.rows.specs.declared.Named.the-variants.{Undefined}
+use Rattle.rows.specs.Forms.{inherent, immediate, direct, indexed, extended, relative, register}
 use Rattle.rows.specs.Sheet.{tableOf}
 use Rattle.rows.specs.Lookup.{find, onPage, inForm, knownOf}
 use Rattle.rows.specs.Sizes.{between}
@@ -122,6 +123,18 @@ numberBytes o form =
     (pick (eqb form 2) (memoryBytes o)
     (pick (eqb form 4) (2 * memoryBytes o)
     (pick (eqb form 5) (branchBytes o) 0)))
+
+-- whether a known operation that is no alias has a form: if the form has bytes for it, or for an inherent row none; the registers' rows are 136 to
+-- 141, and from 142 on are LEAX to LEAU
+unfoldable pub formedOf : ℕ → ℕ → Bool
+formedOf o form =
+    pick (eqb form inherent) (eqb (operandBytes o) 0)
+    (pick (eqb form immediate) (not (eqb (immediateBytes o) 0))
+    (pick (eqb form direct) (not (eqb (memoryBytes o) 0))
+    (pick (eqb form indexed) (not (eqb (memoryBytes o) 0) || leb 142 o)
+    (pick (eqb form extended) (not (eqb (memoryBytes o) 0))
+    (pick (eqb form relative) (not (eqb (branchBytes o) 0))
+    (pick (eqb form register) (between 136 141 o) false))))))
 
 unfoldable pub rowBytes : ℕ → ℕ
 rowBytes o = pick (eqb (pageOf o) 0x00) 1 2 + operandBytes o

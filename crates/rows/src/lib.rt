@@ -6,6 +6,7 @@ mod tables;
 
 use forms::*;
 use ground::tables::byte;
+use sizes::is_formed;
 use tables::*;
 ghost use mathlib.Core.Path.{_≡_};
 ghost use lib.ListN.{drop};
@@ -231,12 +232,7 @@ pub fn code_of(operation: u8, form: u8) -> Coded
 pub fn has_form(operation: u8, form: u8) -> bool
     ensures { λ r. ⌜ r ≡ hasFormOf operation form ⌝ }
 {
-    let coded = code_of(operation, form);
-    match coded {
-        Coded::Code { page: _, code: _ } => true,
-        Coded::Unknown => false,
-        Coded::Missing => false,
-    }
+    known(operation) & is_formed(merged(operation), form)
 }
 
 // The operation and the form of a code. Undefined is 01's refusal 14.

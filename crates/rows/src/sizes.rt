@@ -5,7 +5,7 @@ use crate::merged;
 use crate::page_of;
 ghost use mathlib.Core.Path.{_≡_};
 ghost use Rattle.rows.specs.Sizes.{numberSizeOf, immediateWidthOf, smallestSizeOf, longOf};
-ghost use Rattle.rows.specs.Quick.{wideOf, immediateBytes, memoryBytes, branchBytes, numberBytes, operandBytes, rowBytes};
+ghost use Rattle.rows.specs.Quick.{wideOf, immediateBytes, memoryBytes, branchBytes, numberBytes, operandBytes, formedOf, rowBytes};
 
 // SUBD CMPX LDX, ADDD LDD LDU, CMPD CMPY LDY LDS, CMPU CMPS: immediates of 16 bits.
 fn is_wide(operation: u8) -> bool
@@ -109,6 +109,23 @@ fn operand_bytes(operation: u8) -> u8
         return 2;
     }
     1
+}
+
+// Whether an operation that is known and no alias has a form: if the form has bytes for it, or for an inherent row none. LEAX to LEAU, 142 and
+// up, are indexed only.
+pub(crate) fn is_formed(operation: u8, form: u8) -> bool
+    ensures { λ r. ⌜ r ≡ formedOf operation form ⌝ }
+{
+    match form {
+        INHERENT => operand_bytes(operation) == 0,
+        IMMEDIATE => immediate_bytes(operation) != 0,
+        DIRECT => memory_bytes(operation) != 0,
+        INDEXED => (memory_bytes(operation) != 0) | (142 <= operation),
+        EXTENDED => memory_bytes(operation) != 0,
+        RELATIVE => branch_bytes(operation) != 0,
+        REGISTER => (136 <= operation) & (operation <= 141),
+        _ => false,
+    }
 }
 
 fn row_bytes(operation: u8) -> u8
