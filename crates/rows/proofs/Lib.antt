@@ -1,4 +1,6 @@
-pub mod Find
+pub mod Rest
+pub mod Lines
+pub mod At
 pub mod Pages
 pub mod Codes
 pub mod Tests
@@ -6,6 +8,5 @@ pub mod Quick
 pub mod Bytes
 pub mod Laws
 pub mod Lengths
-pub mod Near
 pub mod Counts
 pub mod Only

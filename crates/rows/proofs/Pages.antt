@@ -8,7 +8,7 @@ use native.Mathlib.Omega.{arith}
 use lib.Dec.{eqb}
 use borrow.Author.Tests.{eqb-true, ne-eqb}
 use Rattle.ground.specs.Choice.{pick}
-use Rattle.rows.specs.Sheet.{byForm, tableOf, page0, page10, page11}
+use Rattle.rows.specs.Sheet.{tableOf, page0, page10, page11}
 
 -- no rows either way
 pub none-either : (t : Bool) → pick {A = List ℕ} t [] [] ≡ []
@@ -16,9 +16,9 @@ unfolding pick
 none-either true = refl
 none-either false = refl
 
-no-rows : (a b c d e f g : List ℕ) (form : ℕ) → 7 ≤ form → byForm a b c d e f g form ≡ []
-unfolding pick
-no-rows a b c d e f g form h =
+pub none-on-0 : (form : ℕ) → 7 ≤ form → page0 form ≡ []
+unfolding page0 pick
+none-on-0 form h =
     rw (
       ne-eqb form 0 (omega arith),
       ne-eqb form 1 (omega arith),
@@ -29,21 +29,32 @@ no-rows a b c d e f g form h =
       ne-eqb form 6 (omega arith),
     )
 
-none-on-0 : (form : ℕ) → 7 ≤ form → page0 form ≡ []
-unfolding page0
-none-on-0 form h = no-rows _ _ _ _ _ _ _ form h
+pub none-on-10 : (form : ℕ) → 6 ≤ form → page10 form ≡ []
+unfolding page10 pick
+none-on-10 form h =
+    rw (
+      ne-eqb form 0 (omega arith),
+      ne-eqb form 1 (omega arith),
+      ne-eqb form 2 (omega arith),
+      ne-eqb form 3 (omega arith),
+      ne-eqb form 4 (omega arith),
+      ne-eqb form 5 (omega arith),
+    ) (none-either (eqb form 6))
 
-none-on-10 : (form : ℕ) → 7 ≤ form → page10 form ≡ []
-unfolding page10
-none-on-10 form h = no-rows _ _ _ _ _ _ _ form h
-
-none-on-11 : (form : ℕ) → 7 ≤ form → page11 form ≡ []
-unfolding page11
-none-on-11 form h = no-rows _ _ _ _ _ _ _ form h
+pub none-on-11 : (form : ℕ) → 5 ≤ form → page11 form ≡ []
+unfolding page11 pick
+none-on-11 form h =
+    rw (
+      ne-eqb form 0 (omega arith),
+      ne-eqb form 1 (omega arith),
+      ne-eqb form 2 (omega arith),
+      ne-eqb form 3 (omega arith),
+      ne-eqb form 4 (omega arith),
+    ) (simp (none-either))
 
 pub no-form : (p form : ℕ) → 7 ≤ form → tableOf p form ≡ []
 unfolding tableOf
-no-form p form h = simp (none-on-0 form h, none-on-10 form h, none-on-11 form h, none-either)
+no-form p form h = simp (none-on-0 form h, none-on-10 form (omega arith), none-on-11 form (omega arith), none-either)
 
 no-page : (p : ℕ) → eqb p 0x00 ≡ false → eqb p 0x10 ≡ false → eqb p 0x11 ≡ false → (form : ℕ) → tableOf p form ≡ []
 unfolding tableOf pick

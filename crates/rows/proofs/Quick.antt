@@ -14,8 +14,8 @@ use Rattle.rows.specs.declared.Coded.the-variants.{Missing}
 use Rattle.rows.specs.declared.Named.the-variants.{Undefined}
 use Rattle.rows.specs.Sheet.{tableOf, page0, page10, page11}
 use Rattle.rows.specs.Lookup.{mergedOf, onPage, placed, hasFormOf, forms, knownOf, codeOf, inForm, rowAmong, rowOf}
-use Rattle.rows.specs.Quick.{look, placeOf, nearCode, sixteenOf, nearOperation, pageOf, formOf, quickRow, quickOn, absentOf}
-use Rattle.rows.proofs.Find.{look-none}
+use Rattle.rows.specs.Quick.{rowAt, ofOperation, digitOf, formOf, placeOf, placeOfCode, sixteenLine, regularCode, otherLine, placeOfOperation, pageOf, quickRow, quickOn, absentOf}
+use Rattle.rows.proofs.At.{nothing-at}
 use Rattle.rows.proofs.Codes.{placed-none, code-placed, absent-placed}
 use Rattle.rows.proofs.Pages.{no-form, by-page}
 use Rattle.rows.proofs.Tests.{sameCoded, sameNamed, same-coded, same-named}
@@ -24,14 +24,14 @@ rowAgrees : ℕ → ℕ → Bool
 rowAgrees page code = sameNamed (quickRow page code) (rowOf page code)
 
 rows-agree : T (upto (rowAgrees 0x00) 256 && (upto (rowAgrees 0x10) 256 && upto (rowAgrees 0x11) 256))
-unfolding rowAgrees quickRow rowOf look formOf nearCode placeOf tableOf page0 page10 page11 pick
+unfolding rowAgrees quickRow rowOf rowAt digitOf formOf placeOfCode placeOf tableOf page0 page10 page11 pick
 rows-agree = tt
 
 codeAgrees : ℕ → ℕ → Bool
 codeAgrees o form = sameCoded (quickOn (mergedOf o) form) (placed o form)
 
 codes-agree : T (upto (λ (o : ℕ). upto (codeAgrees o) 7) 256)
-unfolding codeAgrees quickOn placed mergedOf look pageOf sixteenOf nearOperation placeOf tableOf page0 page10 page11 pick
+unfolding codeAgrees quickOn placed mergedOf rowAt digitOf pageOf sixteenLine regularCode otherLine placeOfOperation placeOf tableOf page0 page10 page11 pick
 codes-agree = tt
 
 -- the numbers that are no operation stand where the sheet leaves a code of 00 to 0F undefined, and JMP is neither on A nor on B
@@ -75,19 +75,19 @@ row-agrees page code h =
     (below (rowAgrees 0x10) 256 (both-left (upto (rowAgrees 0x10) 256) (upto (rowAgrees 0x11) 256) rs) code h))
     (same-named (quickRow 0x11 code) (rowOf 0x11 code)
     (below (rowAgrees 0x11) 256 (both-right (upto (rowAgrees 0x10) 256) (upto (rowAgrees 0x11) 256) rs) code h))
-    (λ p none. rw (none (formOf code), look-none) (sym (none-undefined p code none forms)))
+    (λ p none. rw (none (formOf code), nothing-at) (sym (none-undefined p code none forms)))
     page
 
 -- what the code finds in the one table of a form is the row of a code
 pub row-found :
-    (page code form near : ℕ) (found : Found) →
+    (page code form at : ℕ) (found : Found) →
     code < 256 →
     form ≡ formOf code →
-    near ≡ nearCode page code →
-    found ≡ look true code near (tableOf page form) →
+    at ≡ placeOfCode page code →
+    found ≡ rowAt at (tableOf page form) →
     inForm form found Undefined ≡ rowOf page code
 unfolding quickRow
-row-found page code form near found h e d f = (cc) ∙ row-agrees page code h
+row-found page code form at found h e d f = (cc) ∙ row-agrees page code h
 
 pub code-agrees : (o form : ℕ) → o < 256 → quickOn (mergedOf o) form ≡ placed o form
 unfolding codeAgrees quickOn
@@ -98,19 +98,20 @@ code-agrees o form h = known (ltb form 7) refl
         same-coded (quickOn (mergedOf o) form) (placed o form)
         (below (codeAgrees o) 7 (below (λ (n : ℕ). upto (codeAgrees n) 7) 256 codes-agree o h) form (ltb-true form 7 e))
     known false e =
-        rw (no-form (pageOf (mergedOf o)) form (ltb-false form 7 e), look-none) (sym (placed-none o form (ltb-false form 7 e)))
+        rw (no-form (pageOf (mergedOf o)) form (ltb-false form 7 e), nothing-at) (sym (placed-none o form (ltb-false form 7 e)))
 
 -- what the code finds in the one table of a page is the code of an operation in a form
 pub code-found :
-    (o form name page near : ℕ) (found : Found) →
+    (o form name page at : ℕ) (row found : Found) →
     o < 256 →
     name ≡ mergedOf o →
     page ≡ pageOf name →
-    near ≡ nearOperation name form →
-    found ≡ look false name near (tableOf page form) →
+    at ≡ placeOfOperation name form →
+    row ≡ rowAt at (tableOf page form) →
+    found ≡ ofOperation name row →
     onPage page found (absentOf o form) ≡ codeOf o form
 unfolding quickOn
-code-found o form name page near found h e d g f = from found e₁
+code-found o form name page at row found h e d g f i = from found e₁
   where
     e₁ : onPage page found Missing ≡ placed o form
     e₁ = (cc) ∙ code-agrees o form h

@@ -1,10 +1,10 @@
 -- The quick ways that the code takes. Nothing here has to be believed: proofs/Quick.antt and proofs/Bytes.antt show that they come to what
 -- Lookup.antt and Sizes.antt define.
-use Prim.Native.Nat.{ℕ, _+_, _-_, _*_, _/_, _%_}
+use Prim.Native.Nat.{ℕ, _+_, _-_, _*_, _/_, _%_, _^_}
 use mathlib.Core.Bool.{Bool, true, false, _&&_, _||_, not}
 use mathlib.Core.List.{List, [], _∷_}
 use lib.Dec.{eqb, leb, ltb}
-use lib.ListN.{getD, drop}
+use lib.ListN.{length, getD}
 use Rattle.ground.specs.Choice.{pick}
 use Rattle.rows.specs.declared.Found.{Found}
 use Rattle.rows.specs.declared.Found.the-variants.{Row, Nothing}
@@ -14,52 +14,123 @@ use Rattle.rows.specs.declared.Named.{Named}
 use Rattle.rows.specs.declared.Named.the-variants.{Undefined}
 use Rattle.rows.specs.Forms.{inherent, immediate, direct, indexed, extended, relative, register}
 use Rattle.rows.specs.Sheet.{tableOf}
-use Rattle.rows.specs.Lookup.{find, onPage, inForm, knownOf}
+use Rattle.rows.specs.Lookup.{onPage, inForm, knownOf}
 use Rattle.rows.specs.Sizes.{between}
 
-abbrev pub orElse : Found → Found → Found
-orElse (Row row) other = Row row
-orElse Nothing other = other
+-- the row at a place of a table
+unfoldable pub rowAt : ℕ → List ℕ → Found
+rowAt at rows = pick (ltb at (length rows)) (Row (getD rows at 0)) Nothing
 
--- found from a place on, or else from the front
-unfoldable pub look : Bool → ℕ → ℕ → List ℕ → Found
-look byCode key at rows = orElse (find byCode key (drop at rows)) (find byCode key rows)
+-- what is found, if it is a row of that operation
+abbrev pub ofOperation : ℕ → Found → Found
+ofOperation o (Row row) = pick (eqb (row % 256) o) (Row row) Nothing
+ofOperation o Nothing = Nothing
 
--- where the rows of a sixteen begin in their table, and how many of its codes have none there: the row of a step stands at most so many places
--- before the step. The sixteens 10 and 30 are of several forms, and stand at the front
+-- a line has a hexadecimal digit for each of sixteen cases, the left digit for the first
+unfoldable pub digitOf : ℕ → ℕ → ℕ
+digitOf line case = line / 2 ^ (60 - 4 * (case % 16)) % 16
+
+-- the forms of codes, by their sixteen and their step in it; 7 is none
+abbrev pub formLines : List ℕ
+formLines =
+    0x2772_2722_2227_2222 ∷
+    0x7700_7755_7017_1066 ∷
+    0x5555_5555_5555_5555 ∷
+    0x3333_6666_7000_1070 ∷
+    0x0770_0700_0007_0070 ∷
+    0x0770_0700_0007_0070 ∷
+    0x3773_3733_3337_3333 ∷
+    0x4774_4744_4447_4444 ∷
+    0x1111_1117_1111_1517 ∷
+    0x2222_2222_2222_2222 ∷
+    0x3333_3333_3333_3333 ∷
+    0x4444_4444_4444_4444 ∷
+    0x1111_1117_1111_1717 ∷
+    0x2222_2222_2222_2222 ∷
+    0x3333_3333_3333_3333 ∷
+    0x4444_4444_4444_4444 ∷
+    []
+
+unfoldable pub formOf : ℕ → ℕ
+formOf code = digitOf (getD formLines (code / 16) 0) code
+
+-- on page 0, the place of a sixteen's first row in its table, and how many places after it a code has its row. F where there is no row, and
+-- at 8D, which stands at 18 among the branches
 abbrev pub firsts : List ℕ
 firsts = 0 ∷ 0 ∷ 2 ∷ 0 ∷ 9 ∷ 20 ∷ 4 ∷ 0 ∷ 3 ∷ 12 ∷ 16 ∷ 12 ∷ 16 ∷ 28 ∷ 32 ∷ 28 ∷ []
 
-abbrev pub lacks : List ℕ
-lacks = 4 ∷ 16 ∷ 0 ∷ 16 ∷ 5 ∷ 5 ∷ 4 ∷ 4 ∷ 3 ∷ 0 ∷ 0 ∷ 0 ∷ 3 ∷ 0 ∷ 0 ∷ 0 ∷ []
+abbrev pub stepLines : List ℕ
+stepLines =
+    0x0FF1_2F34_567F_89AB ∷
+    0xFF01_FF01_F20F_1301 ∷
+    0x0123_4567_89AB_CDEF ∷
+    0x0123_2345_F456_27F8 ∷
+    0x0FF1_2F34_567F_89FA ∷
+    0x0FF1_2F34_567F_89FA ∷
+    0x0FF1_2F34_567F_89AB ∷
+    0x0FF1_2F34_567F_89AB ∷
+    0x0123_456F_789A_BFCF ∷
+    0x0123_4567_89AB_CDEF ∷
+    0x0123_4567_89AB_CDEF ∷
+    0x0123_4567_89AB_CDEF ∷
+    0x0123_456F_789A_BFCF ∷
+    0x0123_4567_89AB_CDEF ∷
+    0x0123_4567_89AB_CDEF ∷
+    0x0123_4567_89AB_CDEF ∷
+    []
 
-unfoldable pub placeOf : ℕ → ℕ → ℕ
-placeOf sixteen step = getD firsts sixteen 0 + (step - getD lacks sixteen 0)
+unfoldable pub placeOf : ℕ → ℕ
+placeOf code = getD firsts (code / 16) 0 + digitOf (getD stepLines (code / 16) 0) code
 
-unfoldable pub nearCode : ℕ → ℕ → ℕ
-nearCode page code = pick (eqb page 0x00) (placeOf (code / 16) (code % 16)) 0
+-- on the other pages, the place itself; F where there is no row
+abbrev pub prefixedLines : List ℕ
+prefixedLines =
+    0xFFFF_FFFF_FFFF_FFFF ∷
+    0xFFFF_FFFF_FFFF_FFFF ∷
+    0xF012_3456_789A_BCDE ∷
+    0xFFFF_FFFF_FFFF_FFF0 ∷
+    0xFFFF_FFFF_FFFF_FFFF ∷
+    0xFFFF_FFFF_FFFF_FFFF ∷
+    0xFFFF_FFFF_FFFF_FFFF ∷
+    0xFFFF_FFFF_FFFF_FFFF ∷
+    0xFFF0_FFFF_FFFF_1F2F ∷
+    0xFFF0_FFFF_FFFF_1F23 ∷
+    0xFFF0_FFFF_FFFF_1F23 ∷
+    0xFFF0_FFFF_FFFF_1F23 ∷
+    0xFFFF_FFFF_FFFF_FF3F ∷
+    0xFFFF_FFFF_FFFF_FF45 ∷
+    0xFFFF_FFFF_FFFF_FF45 ∷
+    0xFFFF_FFFF_FFFF_FF45 ∷
+    []
 
--- the sixteen in which an operation below 96 has its code in a form; the front, as of the sixteen 10, for any other
-abbrev pub ofNegs : List ℕ
-ofNegs = 1 ∷ 1 ∷ 0x0 ∷ 0x6 ∷ 0x7 ∷ []
+unfoldable pub placeOfCode : ℕ → ℕ → ℕ
+placeOfCode page code = pick (eqb page 0x00) (placeOf code) (digitOf (getD prefixedLines (code / 16) 0) code)
 
-abbrev pub ofSubas : List ℕ
-ofSubas = 1 ∷ 0x8 ∷ 0x9 ∷ 0xA ∷ 0xB ∷ []
+-- the sixteen in which an operation below 96 has its code, by form
+unfoldable pub sixteenLine : ℕ → ℕ
+sixteenLine o =
+    pick (eqb (o / 16) 0) 0x0006_7000_0000_0000
+    (pick (eqb (o / 16) 1) 0x4000_0000_0000_0000
+    (pick (eqb (o / 16) 2) 0x5000_0000_0000_0000
+    (pick (eqb (o / 16) 3) 0x089A_B000_0000_0000
+    (pick (eqb (o / 16) 4) 0x0CDE_F000_0000_0000 0x0000_0200_0000_0000))))
 
-abbrev pub ofSubbs : List ℕ
-ofSubbs = 1 ∷ 0xC ∷ 0xD ∷ 0xE ∷ 0xF ∷ []
+unfoldable pub regularCode : ℕ → ℕ → ℕ
+regularCode o form = 16 * digitOf (sixteenLine o) form + o % 16
 
-unfoldable pub sixteenOf : ℕ → ℕ → ℕ
-sixteenOf group form =
-    pick (eqb group 0) (getD ofNegs form 0)
-    (pick (eqb group 1) 0x4
-    (pick (eqb group 2) 0x5
-    (pick (eqb group 3) (getD ofSubas form 0)
-    (pick (eqb group 4) (getD ofSubbs form 0)
-    (pick (eqb group 5) 0x2 1)))))
+-- the places of the operations from 96 on, but of BSR, which stands at 18, and of LDS, which stands at 3 among the immediates
+unfoldable pub otherLine : ℕ → ℕ
+otherLine o =
+    pick (eqb (o / 16) 6) 0x0012_3456_789A_BCDE
+    (pick (eqb (o / 16) 7) 0x1F01_2435_0010_0123
+    (pick (eqb (o / 16) 8) 0x4567_8012_0123_4501 0x2300_0000_0000_0000))
 
-unfoldable pub nearOperation : ℕ → ℕ → ℕ
-nearOperation o form = placeOf (sixteenOf (o / 16) form) (o % 16)
+unfoldable pub placeOfOperation : ℕ → ℕ → ℕ
+placeOfOperation o form =
+    pick (ltb o 96) (placeOf (regularCode o form))
+    (pick (eqb o 113) 18
+    (pick (eqb o 117 && eqb form immediate) 3
+    (digitOf (otherLine o) o)))
 
 -- the page of an operation that is no alias
 unfoldable pub pageOf : ℕ → ℕ
@@ -67,30 +138,13 @@ pageOf o =
     pick (between 97 111 o || between 114 120 o) 0x10
     (pick (between 121 123 o) 0x11 0x00)
 
--- the form of a code, where it has one: by its sixteen, but in 10, in 30 and at 8D one by one. 7 is none
-abbrev pub bySixteen : List ℕ
-bySixteen = 2 ∷ 7 ∷ 5 ∷ 7 ∷ 0 ∷ 0 ∷ 3 ∷ 4 ∷ 1 ∷ 2 ∷ 3 ∷ 4 ∷ 1 ∷ 2 ∷ 3 ∷ 4 ∷ []
-
-abbrev pub in10 : List ℕ
-in10 = 7 ∷ 7 ∷ 0 ∷ 0 ∷ 7 ∷ 7 ∷ 5 ∷ 5 ∷ 7 ∷ 0 ∷ 1 ∷ 7 ∷ 1 ∷ 0 ∷ 6 ∷ 6 ∷ []
-
-abbrev pub in30 : List ℕ
-in30 = 3 ∷ 3 ∷ 3 ∷ 3 ∷ 6 ∷ 6 ∷ 6 ∷ 6 ∷ 7 ∷ 0 ∷ 0 ∷ 0 ∷ 1 ∷ 0 ∷ 7 ∷ 0 ∷ []
-
-unfoldable pub formOf : ℕ → ℕ
-formOf code =
-    pick (eqb code 0x8D) 5
-    (pick (eqb (code / 16) 1) (getD in10 (code % 16) 0)
-    (pick (eqb (code / 16) 3) (getD in30 (code % 16) 0)
-    (getD bySixteen (code / 16) 0)))
-
 -- a row by its code, in the one table of its form
 unfoldable pub quickRow : ℕ → ℕ → Named
-quickRow page code = inForm (formOf code) (look true code (nearCode page code) (tableOf page (formOf code))) Undefined
+quickRow page code = inForm (formOf code) (rowAt (placeOfCode page code) (tableOf page (formOf code))) Undefined
 
 -- a code by its operation, in the one table of its page
 unfoldable pub quickOn : ℕ → ℕ → Coded
-quickOn o form = onPage (pageOf o) (look false o (nearOperation o form) (tableOf (pageOf o) form)) Missing
+quickOn o form = onPage (pageOf o) (ofOperation o (rowAt (placeOfOperation o form) (tableOf (pageOf o) form))) Missing
 
 -- why there is no code
 unfoldable pub absentOf : ℕ → ℕ → Coded

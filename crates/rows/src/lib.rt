@@ -1,157 +1,165 @@
 // The sheet's opcode rows, looked up by operation and form (the encoder) or by page and code (the decoder), in the same tables.
-// Each lookup reads one table, from a place near the row on.
+// Each lookup reads one row, at its place in the one table that can have it.
 pub mod forms;
+mod places;
 pub mod sizes;
 mod tables;
 
 use forms::*;
-use ground::tables::byte;
+use places::form_of;
+use places::place_of_code;
+use places::place_of_operation;
 use sizes::is_formed;
 use tables::*;
 ghost use mathlib.Core.Path.{_≡_};
-ghost use lib.ListN.{drop};
 ghost use Rattle.rows.specs.Sheet.{page0, page10, page11, tableOf};
-ghost use Rattle.rows.specs.Lookup.{find, keyOf, mergedOf, knownOf, hasFormOf, codeOf, rowOf};
-ghost use Rattle.rows.specs.Quick.{look, placeOf, nearCode, sixteenOf, nearOperation, pageOf, formOf, absentOf};
+ghost use Rattle.rows.specs.Lookup.{mergedOf, knownOf, hasFormOf, codeOf, rowOf};
+ghost use Rattle.rows.specs.Quick.{rowAt, ofOperation, pageOf, absentOf};
 
-// What a search in a table finds.
+// What a table has at a place.
 enum Found {
     Row(u16),
     Nothing,
 }
 
-// A row's code, or its operation.
-fn key_of(row: u16, by_code: bool) -> u8
-    ensures { λ r. ⌜ r ≡ keyOf «by_code» row ⌝ }
-{
-    if by_code {
-        return (row / 256) as u8;
-    }
-    (row % 256) as u8
-}
-
-// The first row from a place on with that code, or with that operation.
-fn find_from(rows: &[u16], by_code: bool, key: u8, at: usize) -> Found
-    ensures { λ r. ⌜ r ≡ find «by_code» key (drop at (now (rows .entry))) ⌝ }
-{
-    let mut i = at;
-    while i < rows.len() {
-        let row = rows[i];
-        if key_of(row, by_code) == key {
-            return Found::Row(row);
-        }
-        i += 1;
-    }
-    Found::Nothing
-}
-
-// The same, or else the first row of all.
-fn find_row(rows: &[u16], by_code: bool, key: u8, near: usize) -> Found
-    ensures { λ r. ⌜ r ≡ look «by_code» key near (now (rows .entry)) ⌝ }
-{
-    let found = find_from(rows, by_code, key, near);
-    match found {
-        Found::Row(row) => Found::Row(row),
-        Found::Nothing => find_from(rows, by_code, key, 0),
-    }
-}
-
-// A row of a page and form: the one place that says which table that is.
-fn find_on_page_0(form: u8, by_code: bool, key: u8, near: usize) -> Found
-    ensures { λ r. ⌜ r ≡ look «by_code» key near (page0 form) ⌝ }
+// The row at a place of the table of a page and form: the one place that says which table that is.
+fn row_on_page_0(form: u8, at: usize) -> Found
+    ensures { λ r. ⌜ r ≡ rowAt at (page0 form) ⌝ }
 {
     match form {
-        INHERENT => find_row(&INHERENT_0, by_code, key, near),
-        IMMEDIATE => find_row(&IMMEDIATE_0, by_code, key, near),
-        DIRECT => find_row(&DIRECT_0, by_code, key, near),
-        INDEXED => find_row(&INDEXED_0, by_code, key, near),
-        EXTENDED => find_row(&EXTENDED_0, by_code, key, near),
-        RELATIVE => find_row(&RELATIVE_0, by_code, key, near),
-        REGISTER => find_row(&REGISTER_0, by_code, key, near),
+        INHERENT => if at < 31 {
+            Found::Row(INHERENT_0[at])
+        } else {
+            Found::Nothing
+        },
+        IMMEDIATE => if at < 29 {
+            Found::Row(IMMEDIATE_0[at])
+        } else {
+            Found::Nothing
+        },
+        DIRECT => if at < 44 {
+            Found::Row(DIRECT_0[at])
+        } else {
+            Found::Nothing
+        },
+        INDEXED => if at < 48 {
+            Found::Row(INDEXED_0[at])
+        } else {
+            Found::Nothing
+        },
+        EXTENDED => if at < 44 {
+            Found::Row(EXTENDED_0[at])
+        } else {
+            Found::Nothing
+        },
+        RELATIVE => if at < 19 {
+            Found::Row(RELATIVE_0[at])
+        } else {
+            Found::Nothing
+        },
+        REGISTER => if at < 6 {
+            Found::Row(REGISTER_0[at])
+        } else {
+            Found::Nothing
+        },
         _ => Found::Nothing,
     }
 }
 
-fn find_on_page_10(form: u8, by_code: bool, key: u8, near: usize) -> Found
-    ensures { λ r. ⌜ r ≡ look «by_code» key near (page10 form) ⌝ }
+fn row_on_page_10(form: u8, at: usize) -> Found
+    ensures { λ r. ⌜ r ≡ rowAt at (page10 form) ⌝ }
 {
     match form {
-        INHERENT => find_row(&INHERENT_10, by_code, key, near),
-        IMMEDIATE => find_row(&IMMEDIATE_10, by_code, key, near),
-        DIRECT => find_row(&DIRECT_10, by_code, key, near),
-        INDEXED => find_row(&INDEXED_10, by_code, key, near),
-        EXTENDED => find_row(&EXTENDED_10, by_code, key, near),
-        RELATIVE => find_row(&RELATIVE_10, by_code, key, near),
+        INHERENT => if at < 1 {
+            Found::Row(INHERENT_10[at])
+        } else {
+            Found::Nothing
+        },
+        IMMEDIATE => if at < 4 {
+            Found::Row(IMMEDIATE_10[at])
+        } else {
+            Found::Nothing
+        },
+        DIRECT => if at < 6 {
+            Found::Row(DIRECT_10[at])
+        } else {
+            Found::Nothing
+        },
+        INDEXED => if at < 6 {
+            Found::Row(INDEXED_10[at])
+        } else {
+            Found::Nothing
+        },
+        EXTENDED => if at < 6 {
+            Found::Row(EXTENDED_10[at])
+        } else {
+            Found::Nothing
+        },
+        RELATIVE => if at < 15 {
+            Found::Row(RELATIVE_10[at])
+        } else {
+            Found::Nothing
+        },
         _ => Found::Nothing,
     }
 }
 
-fn find_on_page_11(form: u8, by_code: bool, key: u8, near: usize) -> Found
-    ensures { λ r. ⌜ r ≡ look «by_code» key near (page11 form) ⌝ }
+fn row_on_page_11(form: u8, at: usize) -> Found
+    ensures { λ r. ⌜ r ≡ rowAt at (page11 form) ⌝ }
 {
     match form {
-        INHERENT => find_row(&INHERENT_11, by_code, key, near),
-        IMMEDIATE => find_row(&IMMEDIATE_11, by_code, key, near),
-        DIRECT => find_row(&DIRECT_11, by_code, key, near),
-        INDEXED => find_row(&INDEXED_11, by_code, key, near),
-        EXTENDED => find_row(&EXTENDED_11, by_code, key, near),
+        INHERENT => if at < 1 {
+            Found::Row(INHERENT_11[at])
+        } else {
+            Found::Nothing
+        },
+        IMMEDIATE => if at < 2 {
+            Found::Row(IMMEDIATE_11[at])
+        } else {
+            Found::Nothing
+        },
+        DIRECT => if at < 2 {
+            Found::Row(DIRECT_11[at])
+        } else {
+            Found::Nothing
+        },
+        INDEXED => if at < 2 {
+            Found::Row(INDEXED_11[at])
+        } else {
+            Found::Nothing
+        },
+        EXTENDED => if at < 2 {
+            Found::Row(EXTENDED_11[at])
+        } else {
+            Found::Nothing
+        },
         _ => Found::Nothing,
     }
 }
 
-fn find_in(page: u8, form: u8, by_code: bool, key: u8, near: usize) -> Found
-    ensures { λ r. ⌜ r ≡ look «by_code» key near (tableOf page form) ⌝ }
+fn row_at(page: u8, form: u8, at: usize) -> Found
+    ensures { λ r. ⌜ r ≡ rowAt at (tableOf page form) ⌝ }
 {
     match page {
-        0x00 => find_on_page_0(form, by_code, key, near),
-        0x10 => find_on_page_10(form, by_code, key, near),
-        0x11 => find_on_page_11(form, by_code, key, near),
+        0x00 => row_on_page_0(form, at),
+        0x10 => row_on_page_10(form, at),
+        0x11 => row_on_page_11(form, at),
         _ => Found::Nothing,
     }
 }
 
-// A place at which, or a little before which, a row stands: by the sixteen of its code and its step in it.
-fn place(sixteen: u8, step: u8) -> usize
-    ensures { λ r. ⌜ r ≡ placeOf sixteen step ⌝ }
+// What is found, if it is a row of that operation.
+fn of_operation(found: Found, operation: u8) -> Found
+    ensures { λ r. ⌜ r ≡ ofOperation operation found ⌝ }
 {
-    let first = byte(&FIRSTS, sixteen as usize) as usize;
-    let lacking = byte(&LACKS, sixteen as usize);
-    if step < lacking {
-        return first;
+    match found {
+        Found::Row(row) => if (row % 256) as u8 == operation {
+            Found::Row(row)
+        } else {
+            Found::Nothing
+        },
+        Found::Nothing => Found::Nothing,
     }
-    first + (step - lacking) as usize
-}
-
-// Where a search by code begins. The tables of the pages 10 and 11 are short, and are read from the front.
-fn near_code(page: u8, code: u8) -> usize
-    ensures { λ r. ⌜ r ≡ nearCode page code ⌝ }
-{
-    if page == 0x00 {
-        return place(code / 16, code % 16);
-    }
-    0
-}
-
-// The sixteen in which an operation has its code in a form, by the operation's own sixteen; the front for those of no regular code.
-fn sixteen_of(group: u8, form: u8) -> u8
-    ensures { λ r. ⌜ r ≡ sixteenOf group form ⌝ }
-{
-    match group {
-        0 => byte(&SIXTEENS_OF_NEG, form as usize),
-        1 => 0x4,
-        2 => 0x5,
-        3 => byte(&SIXTEENS_OF_SUBA, form as usize),
-        4 => byte(&SIXTEENS_OF_SUBB, form as usize),
-        5 => 0x2,
-        _ => 1,
-    }
-}
-
-// Where a search by operation begins.
-fn near_operation(operation: u8, form: u8) -> usize
-    ensures { λ r. ⌜ r ≡ nearOperation operation form ⌝ }
-{
-    place(sixteen_of(operation / 16, form), operation % 16)
 }
 
 // The operation that an alias stands for; any other number stands for itself.
@@ -164,7 +172,7 @@ pub fn merged(operation: u8) -> u8
     if 152 < operation {
         return operation;
     }
-    byte(&ALIASES, (operation - 146) as usize)
+    ALIASES[(operation - 146) as usize]
 }
 
 // Whether an operation has a row at all.
@@ -217,8 +225,8 @@ pub fn code_of(operation: u8, form: u8) -> Coded
 {
     let name = merged(operation);
     let page = page_of(name);
-    let near = near_operation(name, form);
-    let found = find_in(page, form, false, name, near);
+    let at = place_of_operation(name, form);
+    let found = of_operation(row_at(page, form, at), name);
     match found {
         Found::Row(row) => Coded::Code {
             page,
@@ -241,28 +249,13 @@ pub enum Named {
     Undefined,
 }
 
-// The form of a code, where it has one.
-fn form_of(code: u8) -> u8
-    ensures { λ r. ⌜ r ≡ formOf code ⌝ }
-{
-    let step = code % 16;
-    if code == 0x8D {
-        return RELATIVE;
-    }
-    match code / 16 {
-        1 => byte(&FORMS_10, step as usize),
-        3 => byte(&FORMS_30, step as usize),
-        sixteen => byte(&FORMS, sixteen as usize),
-    }
-}
-
 // The operation and the form of a code, read in the one table of its page and form.
 pub fn row_of(page: u8, code: u8) -> Named
     ensures { λ r. ⌜ r ≡ rowOf page code ⌝ }
 {
     let form = form_of(code);
-    let near = near_code(page, code);
-    let found = find_in(page, form, true, code, near);
+    let at = place_of_code(page, code);
+    let found = row_at(page, form, at);
     match found {
         Found::Row(row) => Named::Is {
             operation: (row % 256) as u8,

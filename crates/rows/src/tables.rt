@@ -365,23 +365,3 @@ pub const EXTENDED_11: [u16; 2] = [
 
 // The operations that LSL LSLA LSLB BHS BLO LBHS LBLO stand for: ASL ASLA ASLB BCC BCS LBCC LBCS.
 pub const ALIASES: [u8; 7] = [8, 24, 40, 84, 85, 100, 101];
-
-// Where the rows of each sixteen of codes begin in their table, and how many codes of the sixteen have no row there. The sixteens 10 and 30
-// are of several forms, and their rows stand at the front.
-pub const FIRSTS: [u8; 16] = [0, 0, 2, 0, 9, 20, 4, 0, 3, 12, 16, 12, 16, 28, 32, 28];
-
-pub const LACKS: [u8; 16] = [4, 16, 0, 16, 5, 5, 4, 4, 3, 0, 0, 0, 3, 0, 0, 0];
-
-// The sixteen of an operation's code by form: of NEG to CLR, of SUBA to STX, of SUBB to STU.
-pub const SIXTEENS_OF_NEG: [u8; 5] = [1, 1, 0x0, 0x6, 0x7];
-
-pub const SIXTEENS_OF_SUBA: [u8; 5] = [1, 0x8, 0x9, 0xA, 0xB];
-
-pub const SIXTEENS_OF_SUBB: [u8; 5] = [1, 0xC, 0xD, 0xE, 0xF];
-
-// The form of the codes of each sixteen; those of 10 and of 30 have each their own. 7 is none.
-pub const FORMS: [u8; 16] = [2, 7, 5, 7, 0, 0, 3, 4, 1, 2, 3, 4, 1, 2, 3, 4];
-
-pub const FORMS_10: [u8; 16] = [7, 7, 0, 0, 7, 7, 5, 5, 7, 0, 1, 7, 1, 0, 6, 6];
-
-pub const FORMS_30: [u8; 16] = [3, 3, 3, 3, 6, 6, 6, 6, 7, 0, 0, 0, 1, 0, 7, 0];

@@ -13,17 +13,20 @@ merged-requires c κs = search needs
 page-of-requires : tie.Need-page-of-requires
 page-of-requires c κs = search needs
 
-near-operation-requires : tie.Need-near-operation-requires
-near-operation-requires c κs = search needs
+place-of-operation-requires : tie.Need-place-of-operation-requires
+place-of-operation-requires c κs = search needs
 
-find-in-requires : tie.Need-find-in-requires
-find-in-requires c κs = search needs
+row-at-requires : tie.Need-row-at-requires
+row-at-requires c κs = search needs
+
+of-operation-requires : tie.Need-of-operation-requires
+of-operation-requires c κs = search needs
 
 enum-known-found : tie.Need-enum-known-found
 enum-known-found c = search needs
 
-cast-t10 : tie.Need-cast-t10
-cast-t10 c = search needs
+cast-t11 : tie.Need-cast-t11
+cast-t11 c = search needs
 
 enum-told : tie.Need-enum-told
 enum-told c = search needs
@@ -33,22 +36,24 @@ absent-requires c κs = search needs
 
 returns : tie.Need-returns
 returns c =
-    let a = c .before .before .before .before .before .before .before .args in
-    code-found (a .operation) (a .form) _ _ _ _ (omega arith)
-    (c .before .before .before .before .before .before .merged .ensures)
-    (c .before .before .before .before .before .page-of .ensures)
-    (c .before .before .before .before .near-operation .ensures)
-    (sym (c .before .found .given .1) ∙ c .before .before .before .find-in .ensures)
+    let a = c .before .before .before .before .before .before .before .before .args in
+    code-found (a .operation) (a .form) _ _ _ _ _ (omega arith)
+    (c .before .before .before .before .before .before .before .merged .ensures)
+    (c .before .before .before .before .before .before .page-of .ensures)
+    (c .before .before .before .before .before .place-of-operation .ensures)
+    (c .before .before .before .before .row-at .ensures)
+    (sym (c .before .found .given .1) ∙ c .before .before .before .of-operation .ensures)
 
 returns-2 : tie.Need-returns-2
 returns-2 c =
-    let a = c .before .before .before .before .before .before .before .args in
+    let a = c .before .before .before .before .before .before .before .before .args in
     c .absent .ensures
-    ∙ code-found (a .operation) (a .form) _ _ _ _ (omega arith)
-    (c .before .before .before .before .before .before .merged .ensures)
-    (c .before .before .before .before .before .page-of .ensures)
-    (c .before .before .before .before .near-operation .ensures)
-    (sym (c .before .enum-told .given .1) ∙ c .before .before .before .find-in .ensures)
+    ∙ code-found (a .operation) (a .form) _ _ _ _ _ (omega arith)
+    (c .before .before .before .before .before .before .before .merged .ensures)
+    (c .before .before .before .before .before .before .page-of .ensures)
+    (c .before .before .before .before .before .place-of-operation .ensures)
+    (c .before .before .before .before .row-at .ensures)
+    (sym (c .before .enum-told .given .1) ∙ c .before .before .before .of-operation .ensures)
 
 pub code-of-spec : {M : Type 1} → statement M
 code-of-spec =
@@ -56,10 +61,11 @@ code-of-spec =
     (tie.spec
     merged-requires
     page-of-requires
-    near-operation-requires
-    find-in-requires
+    place-of-operation-requires
+    row-at-requires
+    of-operation-requires
     enum-known-found
-    cast-t10
+    cast-t11
     enum-told
     absent-requires
     returns

@@ -15,19 +15,15 @@ returns-2 : tie.Need-returns-2
 unfolding mergedOf
 returns-2 c = search (needs, picks, lt-ltb, le-ltb)
 
-slice-aggregate-byte : tie.Need-slice-aggregate-byte
-slice-aggregate-byte c = search needs
+cast-result : tie.Need-cast-result
+cast-result c = search needs
 
-cast-byte : tie.Need-cast-byte
-cast-byte c = search needs
-
-byte-requires : tie.Need-byte-requires
-byte-requires c κs = search needs
+array-read-result : tie.Need-array-read-result
+array-read-result c = search needs
 
 returns-3 : tie.Need-returns-3
 unfolding mergedOf
 returns-3 c = search (needs, picks, lt-ltb, le-ltb)
 
 pub merged-spec : {M : Type 1} → statement M
-merged-spec =
-    tie.close (tie.spec returns returns-2 slice-aggregate-byte cast-byte byte-requires returns-3)
+merged-spec = tie.close (tie.spec returns returns-2 cast-result array-read-result returns-3)
