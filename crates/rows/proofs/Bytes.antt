@@ -16,7 +16,7 @@ use Rattle.rows.specs.declared.Coded.the-variants.{Code, Unknown, Missin
 use Rattle.rows.specs.Sheet.{tableOf, page0, page10, page11}
 use Rattle.rows.specs.Lookup.{mergedOf, isCode, placed, hasFormOf, knownOf, codeOf, forms}
 use Rattle.rows.specs.Sizes.{isWide, isLong, numberAt, ofCode, numberSizeOf, leastAt, lesser, leastAmong, smallestSizeOf, longFrom}
-use Rattle.rows.specs.Quick.{rowAt, digitOf, placeOf, sixteenLine, regularCode, otherLine, placeOfOperation, pageOf, quickOn, wideOf, immediateBytes, memoryBytes, branchBytes, numberBytes, operandBytes, formedOf, rowBytes}
+use Rattle.rows.specs.Quick.{rowAt, digitOf, placeOnPage0, sixteenLine, regularCode, otherLine, placeOfOperation, pageOf, quickOn, wideOf, immediateBytes, memoryBytes, branchBytes, numberBytes, operandBytes, formedOf, rowBytes}
 use Rattle.rows.proofs.Codes.{placed-none, alike}
 use Rattle.rows.proofs.Quick.{quickKnown, same-bool, known-quick, code-agrees}
 
@@ -25,7 +25,7 @@ numberAgrees o form =
     eqb (pick (quickKnown o) (numberBytes (mergedOf o) form) 0) (ofCode (numberAt form) (quickOn (mergedOf o) form))
 
 numbers-agree : T (upto (λ (o : ℕ). upto (numberAgrees o) 7) 256)
-unfolding numberAgrees numberBytes wideOf immediateBytes memoryBytes branchBytes numberAt isWide isLong quickOn mergedOf rowAt digitOf pageOf sixteenLine regularCode otherLine placeOfOperation placeOf tableOf page0 page10 page11 pick
+unfolding numberAgrees numberBytes wideOf immediateBytes memoryBytes branchBytes numberAt isWide isLong quickOn mergedOf rowAt digitOf pageOf sixteenLine regularCode otherLine placeOfOperation placeOnPage0 tableOf page0 page10 page11 pick
 numbers-agree = tt
 
 -- a function of page and code, asked where the code looks, and by definition
@@ -64,7 +64,7 @@ sizeAgrees : ℕ → Bool
 sizeAgrees o = eqb (pick (quickKnown o) (rowBytes (mergedOf o)) 0) (leastQuick (mergedOf o) forms)
 
 sizes-agree : T (upto sizeAgrees 256)
-unfolding sizeAgrees rowBytes operandBytes leastAt numberAt isWide isLong quickOn mergedOf rowAt digitOf pageOf sixteenLine regularCode otherLine placeOfOperation placeOf tableOf page0 page10 page11 pick
+unfolding sizeAgrees rowBytes operandBytes leastAt numberAt isWide isLong quickOn mergedOf rowAt digitOf pageOf sixteenLine regularCode otherLine placeOfOperation placeOnPage0 tableOf page0 page10 page11 pick
 sizes-agree = tt
 
 least-quick : (o : ℕ) → o < 256 → (fs : List ℕ) → leastQuick (mergedOf o) fs ≡ leastAmong o fs
@@ -83,7 +83,7 @@ formAgrees o form =
     pick (isCode (quickOn (mergedOf o) form)) (quickKnown o && formedOf (mergedOf o) form) (not (quickKnown o && formedOf (mergedOf o) form))
 
 forms-agree : T (upto (λ (o : ℕ). upto (formAgrees o) 7) 256)
-unfolding formAgrees formedOf wideOf immediateBytes memoryBytes branchBytes operandBytes quickOn mergedOf rowAt digitOf pageOf sixteenLine regularCode otherLine placeOfOperation placeOf tableOf page0 page10 page11 pick
+unfolding formAgrees formedOf wideOf immediateBytes memoryBytes branchBytes operandBytes quickOn mergedOf rowAt digitOf pageOf sixteenLine regularCode otherLine placeOfOperation placeOnPage0 tableOf page0 page10 page11 pick
 forms-agree = tt
 
 no-form-formed : (o form : ℕ) → 7 ≤ form → formedOf o form ≡ false

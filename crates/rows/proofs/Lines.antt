@@ -1,8 +1,8 @@
--- Lines of sixteen digits.
+-- The sixteens of codes, and the digits of their lines: what bounds them.
 -- Assumes nothing.
 use mathlib.Core.Path.{_≡_}
 use mathlib.Core.Bool.{Bool}
-use Prim.Native.Nat.{ℕ, _/_, _%_, _<_}
+use Prim.Native.Nat.{ℕ, _/_, _<_}
 use native.Mathlib.Omega.{arith}
 use lib.Dec.{T, ltb, ltb→lt}
 use lib.ListN.{getD}
@@ -19,12 +19,12 @@ unfolding digitOf
 digit-small line case = omega arith
 
 firstSmall : ℕ → Bool
-firstSmall code = ltb (getD firsts (code / 16) 0) 33
+firstSmall sixteen = ltb (getD firsts sixteen 0) 33
 
-firsts-small : T (upto firstSmall 256)
+firsts-small : T (upto firstSmall 16)
 unfolding firstSmall
 firsts-small = tt
 
 pub first-small : (code : ℕ) → code < 256 → getD firsts (code / 16) 0 < 33
 unfolding firstSmall
-first-small code h = ltb→lt (getD firsts (code / 16) 0) 33 (below firstSmall 256 firsts-small code h)
+first-small code h = ltb→lt (getD firsts (code / 16) 0) 33 (below firstSmall 16 firsts-small (code / 16) (omega arith))

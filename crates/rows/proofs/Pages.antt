@@ -16,6 +16,7 @@ unfolding pick
 none-either true = refl
 none-either false = refl
 
+-- each page has rows in the first forms only
 pub none-on-0 : (form : ℕ) → 7 ≤ form → page0 form ≡ []
 unfolding page0 pick
 none-on-0 form h =

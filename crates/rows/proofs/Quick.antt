@@ -14,7 +14,7 @@ use Rattle.rows.specs.declared.Coded.the-variants.{Missing}
 use Rattle.rows.specs.declared.Named.the-variants.{Undefined}
 use Rattle.rows.specs.Sheet.{tableOf, page0, page10, page11}
 use Rattle.rows.specs.Lookup.{mergedOf, onPage, placed, hasFormOf, forms, knownOf, codeOf, inForm, rowAmong, rowOf}
-use Rattle.rows.specs.Quick.{rowAt, ofOperation, digitOf, formOf, placeOf, placeOfCode, sixteenLine, regularCode, otherLine, placeOfOperation, pageOf, quickRow, quickOn, absentOf}
+use Rattle.rows.specs.Quick.{rowAt, ofOperation, digitOf, formOf, placeOnPage0, placeOfCode, sixteenLine, regularCode, otherLine, placeOfOperation, pageOf, quickRow, quickOn, absentOf}
 use Rattle.rows.proofs.At.{nothing-at}
 use Rattle.rows.proofs.Codes.{placed-none, code-placed, absent-placed}
 use Rattle.rows.proofs.Pages.{no-form, by-page}
@@ -24,14 +24,14 @@ rowAgrees : ℕ → ℕ → Bool
 rowAgrees page code = sameNamed (quickRow page code) (rowOf page code)
 
 rows-agree : T (upto (rowAgrees 0x00) 256 && (upto (rowAgrees 0x10) 256 && upto (rowAgrees 0x11) 256))
-unfolding rowAgrees quickRow rowOf rowAt digitOf formOf placeOfCode placeOf tableOf page0 page10 page11 pick
+unfolding rowAgrees quickRow rowOf rowAt digitOf formOf placeOfCode placeOnPage0 tableOf page0 page10 page11 pick
 rows-agree = tt
 
 codeAgrees : ℕ → ℕ → Bool
 codeAgrees o form = sameCoded (quickOn (mergedOf o) form) (placed o form)
 
 codes-agree : T (upto (λ (o : ℕ). upto (codeAgrees o) 7) 256)
-unfolding codeAgrees quickOn placed mergedOf rowAt digitOf pageOf sixteenLine regularCode otherLine placeOfOperation placeOf tableOf page0 page10 page11 pick
+unfolding codeAgrees quickOn placed mergedOf rowAt digitOf pageOf sixteenLine regularCode otherLine placeOfOperation placeOnPage0 tableOf page0 page10 page11 pick
 codes-agree = tt
 
 -- the numbers that are no operation stand where the sheet leaves a code of 00 to 0F undefined, and JMP is neither on A nor on B

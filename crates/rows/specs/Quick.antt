@@ -1,7 +1,7 @@
 -- The quick ways that the code takes. Nothing here has to be believed: proofs/Quick.antt and proofs/Bytes.antt show that they come to what
 -- Lookup.antt and Sizes.antt define.
 use Prim.Native.Nat.{ℕ, _+_, _-_, _*_, _/_, _%_, _^_}
-use mathlib.Core.Bool.{Bool, true, false, _&&_, _||_, not}
+use mathlib.Core.Bool.{Bool, false, _&&_, _||_, not}
 use mathlib.Core.List.{List, [], _∷_}
 use lib.Dec.{eqb, leb, ltb}
 use lib.ListN.{length, getD}
@@ -30,7 +30,7 @@ ofOperation o Nothing = Nothing
 unfoldable pub digitOf : ℕ → ℕ → ℕ
 digitOf line case = line / 2 ^ (60 - 4 * (case % 16)) % 16
 
--- the forms of codes, by their sixteen and their step in it; 7 is none
+-- the forms of codes, a line for each sixteen; 7 is none
 abbrev pub formLines : List ℕ
 formLines =
     0x2772_2722_2227_2222 ∷
@@ -54,8 +54,8 @@ formLines =
 unfoldable pub formOf : ℕ → ℕ
 formOf code = digitOf (getD formLines (code / 16) 0) code
 
--- on page 0, the place of a sixteen's first row in its table, and how many places after it a code has its row. F where there is no row, and
--- at 8D, which stands at 18 among the branches
+-- on page 0, the place from which the rows of a sixteen stand in their table, and how many places on a code has its row. F where there is no row,
+-- and at 8D, which stands at 18 among the branches
 abbrev pub firsts : List ℕ
 firsts = 0 ∷ 0 ∷ 2 ∷ 0 ∷ 9 ∷ 20 ∷ 4 ∷ 0 ∷ 3 ∷ 12 ∷ 16 ∷ 12 ∷ 16 ∷ 28 ∷ 32 ∷ 28 ∷ []
 
@@ -79,10 +79,10 @@ stepLines =
     0x0123_4567_89AB_CDEF ∷
     []
 
-unfoldable pub placeOf : ℕ → ℕ
-placeOf code = getD firsts (code / 16) 0 + digitOf (getD stepLines (code / 16) 0) code
+unfoldable pub placeOnPage0 : ℕ → ℕ
+placeOnPage0 code = getD firsts (code / 16) 0 + digitOf (getD stepLines (code / 16) 0) code
 
--- on the other pages, the place itself; F where there is no row
+-- on the other pages, the place itself; F, past the end of every table, where there is no row
 abbrev pub prefixedLines : List ℕ
 prefixedLines =
     0xFFFF_FFFF_FFFF_FFFF ∷
@@ -104,9 +104,9 @@ prefixedLines =
     []
 
 unfoldable pub placeOfCode : ℕ → ℕ → ℕ
-placeOfCode page code = pick (eqb page 0x00) (placeOf code) (digitOf (getD prefixedLines (code / 16) 0) code)
+placeOfCode page code = pick (eqb page 0x00) (placeOnPage0 code) (digitOf (getD prefixedLines (code / 16) 0) code)
 
--- the sixteen in which an operation below 96 has its code, by form
+-- the sixteen in which an operation below 96 has its code, a digit for each form
 unfoldable pub sixteenLine : ℕ → ℕ
 sixteenLine o =
     pick (eqb (o / 16) 0) 0x0006_7000_0000_0000
@@ -127,7 +127,7 @@ otherLine o =
 
 unfoldable pub placeOfOperation : ℕ → ℕ → ℕ
 placeOfOperation o form =
-    pick (ltb o 96) (placeOf (regularCode o form))
+    pick (ltb o 96) (placeOnPage0 (regularCode o form))
     (pick (eqb o 113) 18
     (pick (eqb o 117 && eqb form immediate) 3
     (digitOf (otherLine o) o)))

@@ -4,15 +4,16 @@ use crate::forms::*;
 ghost use mathlib.Core.Path.{_≡_};
 ghost use Prim.Native.Nat.{_/_};
 ghost use lib.ListN.{getD};
-ghost use Rattle.rows.specs.Quick.{digitOf, formLines, formOf, firsts, stepLines, placeOf, prefixedLines, placeOfCode, sixteenLine, regularCode, otherLine, placeOfOperation};
+ghost use Rattle.rows.specs.Quick.{digitOf, formLines, formOf, firsts, stepLines, placeOnPage0, prefixedLines, placeOfCode, sixteenLine, regularCode, otherLine, placeOfOperation};
 
+// The digit of a line for a case.
 fn digit(line: u64, case: u8) -> u8
     ensures { λ r. ⌜ r ≡ digitOf line case ⌝ }
 {
     ((line >> (60 - 4 * (case % 16))) % 16) as u8
 }
 
-// The forms of codes, on whatever page; 7 where no page has the code.
+// The forms of codes, which are the same on every page; 7 where the sheet has a hole.
 fn form_line(code: u8) -> u64
     ensures { λ r. ⌜ r ≡ getD formLines (code / 16) 0 ⌝ }
 {
@@ -42,8 +43,8 @@ pub fn form_of(code: u8) -> u8
     digit(form_line(code), code)
 }
 
-// Page 0: the place of the first row of a sixteen in the table of its form, and how many places after it each code has its row. Of a sixteen
-// of several forms the first is the front of each table. F where page 0 lacks the code; but 8D, BSR, does stand 15 places after 3.
+// Page 0: the place from which the rows of a sixteen stand in the table of their form, and how many places on each code has its row. The rows of
+// 10 and 30, which are of several forms, are counted from the front of each table. F is a hole, but for 8D: BSR does stand 15 places on.
 fn first_of(code: u8) -> u8
     ensures { λ r. ⌜ r ≡ getD firsts (code / 16) 0 ⌝ }
 {
@@ -91,12 +92,13 @@ fn step_line(code: u8) -> u64
 }
 
 fn place_on_page_0(code: u8) -> usize
-    ensures { λ r. ⌜ r ≡ placeOf code ⌝ }
+    ensures { λ r. ⌜ r ≡ placeOnPage0 code ⌝ }
 {
     (first_of(code) + digit(step_line(code), code)) as usize
 }
 
-// The pages 10 and 11: the place of a code in the table of its form, which on page 11 is the same or past the end. F where both lack the code.
+// The pages 10 and 11: the place of a code's row in the table of its form. What page 11 lacks of page 10 stands past the end of its tables, and so
+// does F, a hole of both.
 fn prefixed_line(code: u8) -> u64
     ensures { λ r. ⌜ r ≡ getD prefixedLines (code / 16) 0 ⌝ }
 {
@@ -129,8 +131,8 @@ pub fn place_of_code(page: u8, code: u8) -> usize
     digit(prefixed_line(code), code) as usize
 }
 
-// The sixteens of the codes of operations below 96, by their form, where they have it: NEG to CLR, the same on A and on B, SUBA to STX, SUBB to
-// STU, and the branches.
+// The sixteens of the codes of the operations below 96, a digit for each form; 0 also where they lack it. NEG to CLR, the same on A and on B, SUBA
+// to STX, SUBB to STU, BRA to BLE.
 fn sixteen_line(operation: u8) -> u64
     ensures { λ r. ⌜ r ≡ sixteenLine operation ⌝ }
 {

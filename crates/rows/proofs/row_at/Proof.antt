@@ -1,10 +1,8 @@
 -- `rows::row_at` meets its contract.
 -- Assumes nothing.
-use mathlib.Core.Path.{_∙_, ap, sym}
-use Prim.Native.Nat.{ℕ}
+use mathlib.Core.Path.{sym}
 use borrow.Author.Tests.{ne-eqb}
 use Rattle.ground.specs.Choice.{pick}
-use Rattle.rows.specs.Quick.{rowAt}
 use Rattle.rows.specs.Sheet.{tableOf}
 use Rattle.rows.proofs.At.{nothing-at}
 use borrow.Author.Needs.{needs}

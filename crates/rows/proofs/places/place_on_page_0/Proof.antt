@@ -1,9 +1,7 @@
 -- `rows::places::place_on_page_0` meets its contract.
 -- Assumes nothing.
-use mathlib.Core.Path.{_∙_, ap}
-use Prim.Native.Nat.{ℕ}
 use native.Mathlib.Omega.{arith}
-use Rattle.rows.specs.Quick.{digitOf, placeOf}
+use Rattle.rows.specs.Quick.{placeOnPage0}
 use Rattle.rows.proofs.Lines.{digit-small, first-small}
 use borrow.Author.Needs.{needs}
 use Rattle.rows.proofs.places.place_on_page_0.Statement.{statement}
@@ -27,7 +25,7 @@ cast-result : tie.Need-cast-result
 cast-result c = search needs
 
 returns : tie.Need-returns
-unfolding placeOf
+unfolding placeOnPage0
 returns c = rw (← c .before .before .first-of .ensures, ← c .before .step-line .ensures, ← c .digit .ensures)
 
 pub place-on-page-0-spec : {M : Type 1} → statement M
