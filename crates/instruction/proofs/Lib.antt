@@ -1,6 +1,7 @@
 pub mod Tests
 pub mod Padded
 pub mod Keeps
+pub mod Ready
 pub mod Cases
 pub mod Rows
 pub mod Before

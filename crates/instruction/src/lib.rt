@@ -3,7 +3,7 @@ mod bytes;
 mod choosing;
 mod forms;
 pub mod names;
-mod records;
+mod validity;
 
 use bytes::lay;
 use choosing::choose;
@@ -15,16 +15,19 @@ use ground::refusals;
 use names::*;
 use postbytes::Index;
 use postbytes::numbers::DP;
-use records::is_lawful;
-use records::is_recognised;
-use records::is_sound;
 use rows::forms::DIRECT;
+use validity::is_lawful;
+use validity::is_recognised;
+use validity::is_sound;
 use values::Value;
 ghost use mathlib.Core.Path.{_≡_};
+ghost use mathlib.Core.Bool.{true, false};
 ghost use Prim.Native.Nat.{_≤_};
 ghost use lib.ListN.{length, take};
 ghost use Rattle.ground.specs.Stores.{put};
-ghost use Rattle.instruction.specs.Building.{noOperand, noInstruction, noValues, instructionOf, unmade, madeAs, makeOf, operandRefusal, earlyOf, dirtiesOf, refusedWith, acceptedOf, buildOf, handed, freshOf, placedOf, bufferOf};
+ghost use Rattle.instruction.specs.Records.{sound};
+ghost use Rattle.instruction.specs.Forms.{lacks};
+ghost use Rattle.instruction.specs.Building.{noOperand, noInstruction, noValues, instructionOf, unmade, makeOf, operandRefusal, dirtiesOf, refusedWith, acceptedOf, buildOf, handed, freshOf, placedOf, bufferOf};
 
 // What a build does not change: the operand as the parser saw it. Any number in it may be wrong.
 pub struct Operand {
@@ -58,6 +61,12 @@ pub struct Instruction {
     pub form: u8,
     pub trial: bool,
     pub widened: bool,
+}
+
+// What making an instruction settles before it is made: a refusal, or the form.
+struct Asked {
+    refusal: u8,
+    form: u8,
 }
 
 pub struct Made {
@@ -170,16 +179,27 @@ fn unmade(n: u8) -> Made
     }
 }
 
-fn made_as(o: Operand, form: u8) -> Made
-    ensures { λ r. ⌜ r ≡ madeAs o form ⌝ }
+// The form that a record asks for: refused 1 where a number is wrong, then 2 where the row has no such mode.
+fn ask(r: Record) -> Asked
+    ensures refusal { λ a. ⌜ a .refusal ≡ makeOf r .refusal ⌝ }
+    ensures form { λ a. ⌜ a .form ≡ makeOf r .instruction .form ⌝ }
 {
-    if is_lacking(o, form) {
-        return unmade(refusals::NO_SUCH_MODE);
+    let o = r.operand;
+    let v = r.values;
+    let known = is_recognised(o) & is_lawful(v);
+    if known {
+        let form = form_for(o, v, r.dirty);
+        if is_lacking(o, form) {
+            return Asked {
+                refusal: refusals::NO_SUCH_MODE,
+                form: 0,
+            };
+        }
+        return Asked { refusal: 0, form };
     }
-    let instruction = instruction_of(o, form);
-    Made {
-        refusal: 0,
-        instruction,
+    Asked {
+        refusal: refusals::UNKNOWN,
+        form: 0,
     }
 }
 
@@ -229,36 +249,20 @@ impl Operand {
 }
 
 impl Instruction {
-    // Makes an instruction of a record: refused 1 where a number is wrong, then 2 where the row has no such mode.
+    // Makes an instruction of a record, refused as the record is.
     pub fn make(r: Record) -> Made
         ensures { λ m. ⌜ m ≡ makeOf r ⌝ }
     {
+        let asked = ask(r);
+        if asked.refusal != 0 {
+            return unmade(asked.refusal);
+        }
         let o = r.operand;
-        let v = r.values;
-        let known = is_recognised(o) & is_lawful(v);
-        if known {
-            return made_as(o, form_for(o, v, r.dirty));
+        let instruction = instruction_of(o, asked.form);
+        Made {
+            refusal: 0,
+            instruction,
         }
-        unmade(refusals::UNKNOWN)
-    }
-
-    // 1, 2 and 3.
-    fn early(self, v: Values) -> u8
-        ensures { λ r. ⌜ r ≡ earlyOf self v ⌝ }
-    {
-        let o = self.operand;
-        let unsound = !is_sound(self, v);
-        if unsound {
-            return refusals::UNKNOWN;
-        }
-        if is_lacking(o, self.form) {
-            return refusals::NO_SUCH_MODE;
-        }
-        let missing = needs_value(o.mode, self.form) & !v.given;
-        if missing {
-            return refusals::VALUE_MISSING;
-        }
-        0
     }
 
     // Takes on what a build settled, and hands it back beside its bytes.
@@ -280,20 +284,37 @@ impl Instruction {
         }
     }
 
-    // The instruction is taken by value and handed back, with its new form, trial mark and widening beside its bytes. A refusal hands it back
-    // unchanged, with zeros.
-    pub fn build(mut self, v: Values, dirty: bool, address: u16) -> Built
+    // A build once 1 and 2 are ruled out, as they are for an instruction that was just made: 3, then what choosing refuses.
+    fn finish(mut self, v: Values, dirty: bool, address: u16) -> Built
+        requires { ⌜ (sound self v ≡ true) × (lacks (self .operand) (self .form) ≡ false) ⌝ }
         ensures { λ r. ⌜ r ≡ buildOf self v dirty address ⌝ }
     {
-        let early = self.early(v);
-        if early != 0 {
-            return refused(self, early);
+        let o = self.operand;
+        let missing = needs_value(o.mode, self.form) & !v.given;
+        if missing {
+            return refused(self, refusals::VALUE_MISSING);
         }
         let c = choose(self, v, dirty, address);
         if c.refusal != 0 {
             return refused(self, c.refusal);
         }
         self.accept(c, address)
+    }
+
+    // The instruction is taken by value and handed back, with its new form, trial mark and widening beside its bytes. A refusal hands it back
+    // unchanged, with zeros.
+    pub fn build(mut self, v: Values, dirty: bool, address: u16) -> Built
+        ensures { λ r. ⌜ r ≡ buildOf self v dirty address ⌝ }
+    {
+        let o = self.operand;
+        let unsound = !is_sound(self, v);
+        if unsound {
+            return refused(self, refusals::UNKNOWN);
+        }
+        if is_lacking(o, self.form) {
+            return refused(self, refusals::NO_SUCH_MODE);
+        }
+        self.finish(v, dirty, address)
     }
 }
 
@@ -346,15 +367,16 @@ fn handed(built: Built) -> Built
     built
 }
 
-// A fresh instruction, made and built from one record.
+// A fresh instruction, made and built from one record. What it is made of is not tested again.
 pub fn assemble(r: Record, address: u16) -> Built
     ensures { λ b. ⌜ b ≡ freshOf r address ⌝ }
 {
-    let made = Instruction::make(r);
-    if made.refusal != 0 {
-        return refused(no_instruction(), made.refusal);
+    let asked = ask(r);
+    if asked.refusal != 0 {
+        return refused(no_instruction(), asked.refusal);
     }
-    let i = made.instruction;
+    let o = r.operand;
     let v = r.values;
-    handed(i.build(v, r.dirty, address))
+    let i = instruction_of(o, asked.form);
+    handed(i.finish(v, r.dirty, address))
 }

@@ -1,7 +1,7 @@
 -- The row that a build hands out is read as the instruction that it handed back.
 -- Assumes nothing.
 use mathlib.Core.Path.{_≡_, refl}
-use mathlib.Core.Bool.{Bool, true, false, not, _&&_, true≢false}
+use mathlib.Core.Bool.{Bool, true, false, _&&_}
 use mathlib.Core.List.{List, [], _∷_}
 use Prim.Native.Nat.{ℕ, zero, suc, _<_}
 use native.Mathlib.Omega.{arith}
@@ -10,9 +10,7 @@ use lib.Dec.{eqb, leb, ltb}
 use lib.ListN.{length, getD}
 use Rattle.ground.specs.Choice.{pick}
 use Rattle.ground.proofs.Choices.{by-test, by-pick}
-use Rattle.ground.proofs.Tests.{neither-left}
 use Rattle.answers.specs.Sizes.{flagCell}
-use Rattle.rows.specs.Lookup.{hasFormOf}
 use Rattle.rows.proofs.Codes.{form-small}
 use Rattle.instruction.specs.declared.Operand.{Operand}
 use Rattle.instruction.specs.declared.Values.{Values}
@@ -20,9 +18,10 @@ use Rattle.instruction.specs.declared.Instruction.{Instruction}
 use Rattle.instruction.specs.declared.Made.{Made}
 use Rattle.instruction.specs.declared.Built.{Built}
 use Rattle.instruction.specs.Records.{recognised, lawful}
-use Rattle.instruction.specs.Forms.{formOf, lacks, strays}
+use Rattle.instruction.specs.Forms.{formOf, lacks}
 use Rattle.instruction.specs.Choosing.{chooseOf}
 use Rattle.instruction.specs.Building.{instructionOf, madeAs, makeOf, acceptedOf, buildOf, handed, freshFrom, freshOf}
+use Rattle.instruction.proofs.Ready.{lacking-none}
 use Rattle.instruction.proofs.Fits.{build-chosen}
 use Rattle.entries.specs.Entries.{byteIn, isFlag, flagIn, flaggedIn, registersIn, operandOf, allFlagged, toldIn, entryOf}
 use Rattle.joltwagon.specs.Kept.{isKept, keptOf, keptCells}
@@ -108,10 +107,6 @@ unfolding byteIn
 byte-small row at =
     by-test (λ (n : ℕ). n < 256) (ltb (getD row at 0) 256) (λ t. ltb-true (getD row at 0) 256 t) (λ _. omega arith)
 
-not-false : (b : Bool) → not b ≡ false → b ≡ true
-not-false true e = refl
-not-false false e = absurd (true≢false e)
-
 registers-small : (row : List ℕ) (k : ℕ) → getD (registersIn row) k 0 < 256
 unfolding registersIn
 registers-small row zero = byte-small row 7
@@ -136,13 +131,7 @@ kept-small row = record {
   registers = registers-small row;
 }
 
--- one that was made, of a known operation or not: a form that is not lacking is one of seven
-lacking-none : (o : Operand) (form : ℕ) → lacks o form ≡ false → form < 7
-unfolding lacks
-lacking-none o form e =
-    form-small (o .operation) form
-    (not-false (hasFormOf (o .operation) form) (neither-left (not (hasFormOf (o .operation) form)) (strays (o .mode) form) e))
-
+-- one that was made, of a known operation or not
 formed-small : (row : List ℕ) (form : ℕ) → form < 7 → Small (instructionOf (toldIn row) form)
 unfolding keptOf toldIn instructionOf
 formed-small row form h =

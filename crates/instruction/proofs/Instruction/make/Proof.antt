@@ -1,42 +1,36 @@
 -- `instruction::Instruction::make` meets its contract.
 -- Assumes nothing.
+use mathlib.Core.Path.{sym, ap, _∙_}
+use Prim.Native.Nat.{ℕ}
 use borrow.Author.Needs.{needs}
-use Rattle.ground.specs.Choice.{pick}
-use Rattle.instruction.specs.Building.{makeOf}
+use Rattle.instruction.specs.Building.{unmade}
+use Rattle.instruction.proofs.Keeps.{make-keeps}
+use Rattle.instruction.proofs.Ready.{made-of}
 use Rattle.instruction.proofs.Instruction.make.Statement.{statement}
 use Rattle.instruction.proofs.Instruction.make.Tie as tie
 
-is-recognised-requires : tie.Need-is-recognised-requires
-is-recognised-requires c κs = search needs
-
-is-lawful-requires : tie.Need-is-lawful-requires
-is-lawful-requires c κs = search needs
-
-form-for-requires : tie.Need-form-for-requires
-form-for-requires c κs = search needs
-
-made-as-requires : tie.Need-made-as-requires
-made-as-requires c κs = search needs
-
-returns : tie.Need-returns
-unfolding makeOf pick
-returns c = rw (← c .before .before .before .before .is-recognised .ensures, ← c .before .before .before .is-lawful .ensures, c .before .before .if1 .taken, ← c .before .form-for .ensures) (c .made-as .ensures)
+ask-requires : tie.Need-ask-requires
+ask-requires c κs = search needs
 
 unmade-requires : tie.Need-unmade-requires
 unmade-requires c κs = search needs
 
+returns : tie.Need-returns
+returns c =
+    let e = c .before .before .before .ask .ensures .0 in
+    c .unmade .ensures
+    ∙ ap (λ (n : ℕ). unmade n) e
+    ∙ sym (make-keeps (c .before .before .before .before .args .r) (λ z. c .before .if1 .taken (e ∙ z)))
+
+instruction-of-requires : tie.Need-instruction-of-requires
+instruction-of-requires c κs = search needs
+
 returns-2 : tie.Need-returns-2
-unfolding makeOf pick
-returns-2 c = rw (← c .before .before .before .is-recognised .ensures, ← c .before .before .is-lawful .ensures, c .before .if1 .left) (c .unmade .ensures)
+returns-2 c =
+    let asked = c .before .before .before .before in
+    sym (made-of (asked .before .args .r) (asked .ask .ensures .0) (asked .ask .ensures .1) (c .before .before .if1 .left) (c .instruction-of .ensures))
 
 pub make-spec : {M : Type 1} → statement M
 make-spec =
     tie.close
-    (tie.spec
-    is-recognised-requires
-    is-lawful-requires
-    form-for-requires
-    made-as-requires
-    returns
-    unmade-requires
-    returns-2)
+    (tie.spec ask-requires unmade-requires returns instruction-of-requires returns-2)

@@ -1,9 +1,9 @@
--- `instruction::records::is_sound` meets its contract.
+-- `instruction::validity::is_sound` meets its contract.
 -- Assumes nothing.
 use borrow.Author.Needs.{needs}
 use Rattle.instruction.specs.Records.{sound}
-use Rattle.instruction.proofs.records.is_sound.Statement.{statement}
-use Rattle.instruction.proofs.records.is_sound.Tie as tie
+use Rattle.instruction.proofs.validity.is_sound.Statement.{statement}
+use Rattle.instruction.proofs.validity.is_sound.Tie as tie
 
 is-recognised-requires : tie.Need-is-recognised-requires
 is-recognised-requires c κs = search needs

@@ -1,12 +1,12 @@
--- `instruction::records::is_agreeing` meets its contract.
+-- `instruction::validity::is_agreeing` meets its contract.
 -- Assumes nothing.
 use mathlib.Core.Path.{_≡_}
 use Prim.Native.Nat.{_%_}
 use native.Mathlib.Omega.{arith}
 use Rattle.ground.specs.Choice.{pick}
 use Rattle.instruction.specs.Records.{agreeing, narrower}
-use Rattle.instruction.proofs.records.is_agreeing.Statement.{statement}
-use Rattle.instruction.proofs.records.is_agreeing.Tie as tie
+use Rattle.instruction.proofs.validity.is_agreeing.Statement.{statement}
+use Rattle.instruction.proofs.validity.is_agreeing.Tie as tie
 
 returns : tie.Need-returns
 unfolding agreeing narrower pick

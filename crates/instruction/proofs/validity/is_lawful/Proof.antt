@@ -1,9 +1,9 @@
--- `instruction::records::is_lawful` meets its contract.
+-- `instruction::validity::is_lawful` meets its contract.
 -- Assumes nothing.
 use borrow.Author.Needs.{needs}
 use Rattle.instruction.specs.Records.{lawful}
-use Rattle.instruction.proofs.records.is_lawful.Statement.{statement}
-use Rattle.instruction.proofs.records.is_lawful.Tie as tie
+use Rattle.instruction.proofs.validity.is_lawful.Statement.{statement}
+use Rattle.instruction.proofs.validity.is_lawful.Tie as tie
 
 valid-requires : tie.Need-valid-requires
 valid-requires c κs = search needs

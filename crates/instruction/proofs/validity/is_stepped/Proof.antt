@@ -1,9 +1,9 @@
--- `instruction::records::is_stepped` meets its contract.
+-- `instruction::validity::is_stepped` meets its contract.
 -- Assumes nothing.
 use mathlib.Core.Path.{refl}
 use Rattle.instruction.specs.Records.{stepped}
-use Rattle.instruction.proofs.records.is_stepped.Statement.{statement}
-use Rattle.instruction.proofs.records.is_stepped.Tie as tie
+use Rattle.instruction.proofs.validity.is_stepped.Statement.{statement}
+use Rattle.instruction.proofs.validity.is_stepped.Tie as tie
 
 returns : tie.Need-returns
 unfolding stepped

@@ -1,9 +1,9 @@
--- `instruction::records::is_recognised` meets its contract.
+-- `instruction::validity::is_recognised` meets its contract.
 -- Assumes nothing.
 use borrow.Author.Needs.{needs}
 use Rattle.instruction.specs.Records.{recognised}
-use Rattle.instruction.proofs.records.is_recognised.Statement.{statement}
-use Rattle.instruction.proofs.records.is_recognised.Tie as tie
+use Rattle.instruction.proofs.validity.is_recognised.Statement.{statement}
+use Rattle.instruction.proofs.validity.is_recognised.Tie as tie
 
 known-requires : tie.Need-known-requires
 known-requires c κs = search needs
