@@ -1,3 +1,4 @@
+pub mod Cells
 pub mod Unknown
 pub mod Small
 pub mod Only

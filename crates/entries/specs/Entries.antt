@@ -1,5 +1,5 @@
 -- An operand record in a row of numbers (docs/ROWS.md): 15 of the operand, then page dirty, values given, and the two values. What lies past a row's end is 0.
-use Prim.Native.Nat.{ℕ, _+_}
+use Prim.Native.Nat.{ℕ, zero, suc, _+_}
 use mathlib.Core.Bool.{Bool, _&&_}
 use mathlib.Core.List.{List, [], _∷_}
 use lib.Dec.{eqb, ltb, leb}
@@ -25,6 +25,15 @@ isFlag row at = leb (getD row at 0) 1
 
 unfoldable pub flagIn : List ℕ → ℕ → Bool
 flagIn row at = eqb (getD row at 0) 1
+
+-- the cells of a row, from a place on
+abbrev pub cellsFrom : List ℕ → ℕ → ℕ → List ℕ
+cellsFrom row at zero = []
+cellsFrom row at (suc n) = getD row at 0 ∷ cellsFrom row (at + 1) n
+
+-- those of a record, zeros past the row's end
+unfoldable pub cellsOf : List ℕ → List ℕ
+cellsOf row = cellsFrom row 0 21
 
 -- ---- the operand
 -- each of its flags is one: indirect, forced, widening allowed

@@ -6,18 +6,27 @@ use instruction::Record;
 use instruction::Values;
 use values::Value;
 ghost use mathlib.Core.Path.{_≡_};
-ghost use Prim.Native.Nat.{_<_};
-ghost use Rattle.entries.specs.Entries.{byteIn, isFlag, flagIn, flaggedIn, registersIn, operandOf, valueIn, valuesIn, allFlagged, toldIn, entryOf};
+ghost use Prim.Native.Nat.{_≤_};
+ghost use lib.Dec.{ltb};
+ghost use lib.ListN.{length};
+ghost use Rattle.ground.specs.Choice.{pick};
+ghost use Rattle.entries.specs.Entries.{nowhere, byteIn, isFlag, flagIn, flaggedIn, cellsOf, registersIn, operandOf, valuesIn, allFlagged, toldIn, entryOf};
 
 // No operation, mode, register, step or width has this number, and no list so many registers.
 const NOWHERE: u8 = 255;
 
-// The number of 8 bits in a cell; one that does not fit is unknown.
+// A number of 8 bits; one that does not fit is unknown.
+fn narrow(n: u16) -> u8
+    ensures { λ r. ⌜ r ≡ pick (ltb n 256) n nowhere ⌝ }
+{
+    if n < 256 { n as u8 } else { NOWHERE }
+}
+
+// The number of 8 bits in a cell.
 pub fn byte_in(row: &[u16], at: usize) -> u8
     ensures { λ r. ⌜ r ≡ byteIn (now (row .entry)) at ⌝ }
 {
-    let n = cell(row, at);
-    if n < 256 { n as u8 } else { NOWHERE }
+    narrow(cell(row, at))
 }
 
 // A cell holds a flag: 0 or 1.
@@ -40,32 +49,63 @@ pub fn flagged(row: &[u16]) -> bool
     is_flag(row, 2) & (is_flag(row, 3) & is_flag(row, 5))
 }
 
-fn registers_in(row: &[u16]) -> [u8; 8]
-    ensures { λ r. ⌜ r ≡ registersIn (now (row .entry)) ⌝ }
+// The cells of a row that may be shorter than a record.
+fn padded(row: &[u16]) -> [u16; 21]
+    ensures { λ r. ⌜ r ≡ cellsOf (now (row .entry)) ⌝ }
 {
     [
-        byte_in(row, 7),
-        byte_in(row, 8),
-        byte_in(row, 9),
-        byte_in(row, 10),
-        byte_in(row, 11),
-        byte_in(row, 12),
-        byte_in(row, 13),
-        byte_in(row, 14),
+        cell(row, 0),
+        cell(row, 1),
+        cell(row, 2),
+        cell(row, 3),
+        cell(row, 4),
+        cell(row, 5),
+        cell(row, 6),
+        cell(row, 7),
+        cell(row, 8),
+        cell(row, 9),
+        cell(row, 10),
+        cell(row, 11),
+        cell(row, 12),
+        cell(row, 13),
+        cell(row, 14),
+        cell(row, 15),
+        cell(row, 16),
+        cell(row, 17),
+        cell(row, 18),
+        cell(row, 19),
+        cell(row, 20),
     ]
 }
 
-// The operand at the front of a row: 15 numbers.
-pub fn operand_of(row: &[u16]) -> Operand
+fn registers_in(row: &[u16]) -> [u8; 8]
+    requires { ⌜ 15 ≤ length (now row) ⌝ }
+    ensures { λ r. ⌜ r ≡ registersIn (now (row .entry)) ⌝ }
+{
+    [
+        narrow(row[7]),
+        narrow(row[8]),
+        narrow(row[9]),
+        narrow(row[10]),
+        narrow(row[11]),
+        narrow(row[12]),
+        narrow(row[13]),
+        narrow(row[14]),
+    ]
+}
+
+// The operand at the front of a row that is long enough, so that no cell asks for the length.
+fn operand_in(row: &[u16]) -> Operand
+    requires { ⌜ 15 ≤ length (now row) ⌝ }
     ensures { λ r. ⌜ r ≡ operandOf (now (row .entry)) ⌝ }
 {
-    let operation = byte_in(row, 0);
-    let mode = byte_in(row, 1);
-    let indirect = flag_in(row, 2);
-    let forced = flag_in(row, 3);
-    let step = byte_in(row, 4);
-    let widening = flag_in(row, 5);
-    let count = byte_in(row, 6);
+    let operation = narrow(row[0]);
+    let mode = narrow(row[1]);
+    let indirect = row[2] == 1;
+    let forced = row[3] == 1;
+    let step = narrow(row[4]);
+    let widening = row[5] == 1;
+    let count = narrow(row[6]);
     let registers = registers_in(row);
     Operand {
         operation,
@@ -79,24 +119,31 @@ pub fn operand_of(row: &[u16]) -> Operand
     }
 }
 
-// A number and its width.
-fn value_in(row: &[u16], at: usize) -> Value
-    requires { ⌜ at < 21 ⌝ }
-    ensures { λ r. ⌜ r ≡ valueIn (now (row .entry)) at ⌝ }
+// The operand at the front of a row: 15 numbers.
+pub fn operand_of(row: &[u16]) -> Operand
+    ensures { λ r. ⌜ r ≡ operandOf (now (row .entry)) ⌝ }
 {
-    let number = cell(row, at);
-    let width = byte_in(row, at + 1);
-    Value { number, width }
+    if 15 <= row.len() {
+        return operand_in(row);
+    }
+    let whole = padded(row);
+    operand_in(&whole)
 }
 
 fn values_in(row: &[u16]) -> Values
+    requires { ⌜ 21 ≤ length (now row) ⌝ }
     ensures { λ r. ⌜ r ≡ valuesIn (now (row .entry)) ⌝ }
 {
-    let given = flag_in(row, 16);
-    let unsigned = value_in(row, 17);
-    let signed = value_in(row, 19);
+    let unsigned = Value {
+        number: row[17],
+        width: narrow(row[18]),
+    };
+    let signed = Value {
+        number: row[19],
+        width: narrow(row[20]),
+    };
     Values {
-        given,
+        given: row[16] == 1,
         unsigned,
         signed,
     }
@@ -104,16 +151,18 @@ fn values_in(row: &[u16]) -> Values
 
 // Each flag of the record is 0 or 1.
 fn all_flagged(row: &[u16]) -> bool
+    requires { ⌜ 21 ≤ length (now row) ⌝ }
     ensures { λ r. ⌜ r ≡ allFlagged (now (row .entry)) ⌝ }
 {
-    flagged(row) & (is_flag(row, 15) & is_flag(row, 16))
+    ((row[2] <= 1) & ((row[3] <= 1) & (row[5] <= 1))) & ((row[15] <= 1) & (row[16] <= 1))
 }
 
 // The operand, if each flag of the record is one; else it has no known operation.
 fn told_operand(row: &[u16]) -> Operand
+    requires { ⌜ 21 ≤ length (now row) ⌝ }
     ensures { λ r. ⌜ r ≡ toldIn (now (row .entry)) ⌝ }
 {
-    let mut operand = operand_of(row);
+    let mut operand = operand_in(row);
     let flags = all_flagged(row);
     if flags {
         return operand;
@@ -122,16 +171,27 @@ fn told_operand(row: &[u16]) -> Operand
     operand
 }
 
+// The record in a row that is long enough.
+fn entry_in(row: &[u16]) -> Record
+    requires { ⌜ 21 ≤ length (now row) ⌝ }
+    ensures { λ r. ⌜ r ≡ entryOf (now (row .entry)) ⌝ }
+{
+    let operand = told_operand(row);
+    let values = values_in(row);
+    Record {
+        operand,
+        dirty: row[15] == 1,
+        values,
+    }
+}
+
 // The operand record in a row: 21 numbers.
 pub fn entry_of(row: &[u16]) -> Record
     ensures { λ r. ⌜ r ≡ entryOf (now (row .entry)) ⌝ }
 {
-    let operand = told_operand(row);
-    let dirty = flag_in(row, 15);
-    let values = values_in(row);
-    Record {
-        operand,
-        dirty,
-        values,
+    if 21 <= row.len() {
+        return entry_in(row);
     }
+    let whole = padded(row);
+    entry_in(&whole)
 }

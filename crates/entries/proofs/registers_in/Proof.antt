@@ -1,48 +1,80 @@
 -- `entries::registers_in` meets its contract.
 -- Assumes nothing.
-use Rattle.entries.specs.Entries.{registersIn}
 use borrow.Author.Needs.{needs}
+use Rattle.entries.specs.Entries.{byteIn, registersIn}
 use Rattle.entries.proofs.registers_in.Statement.{statement}
 use Rattle.entries.proofs.registers_in.Tie as tie
 
-byte-in-requires : tie.Need-byte-in-requires
-byte-in-requires c κs = search needs
+shared-slice-read-narrow : tie.Need-shared-slice-read-narrow
+shared-slice-read-narrow c = search needs
 
-byte-in-requires-2 : tie.Need-byte-in-requires-2
-byte-in-requires-2 c κs = search needs
+narrow-requires : tie.Need-narrow-requires
+narrow-requires c κs = search needs
 
-byte-in-requires-3 : tie.Need-byte-in-requires-3
-byte-in-requires-3 c κs = search needs
+shared-slice-read-narrow-2 : tie.Need-shared-slice-read-narrow-2
+shared-slice-read-narrow-2 c = search needs
 
-byte-in-requires-4 : tie.Need-byte-in-requires-4
-byte-in-requires-4 c κs = search needs
+narrow-requires-2 : tie.Need-narrow-requires-2
+narrow-requires-2 c κs = search needs
 
-byte-in-requires-5 : tie.Need-byte-in-requires-5
-byte-in-requires-5 c κs = search needs
+shared-slice-read-narrow-3 : tie.Need-shared-slice-read-narrow-3
+shared-slice-read-narrow-3 c = search needs
 
-byte-in-requires-6 : tie.Need-byte-in-requires-6
-byte-in-requires-6 c κs = search needs
+narrow-requires-3 : tie.Need-narrow-requires-3
+narrow-requires-3 c κs = search needs
 
-byte-in-requires-7 : tie.Need-byte-in-requires-7
-byte-in-requires-7 c κs = search needs
+shared-slice-read-narrow-4 : tie.Need-shared-slice-read-narrow-4
+shared-slice-read-narrow-4 c = search needs
 
-byte-in-requires-8 : tie.Need-byte-in-requires-8
-byte-in-requires-8 c κs = search needs
+narrow-requires-4 : tie.Need-narrow-requires-4
+narrow-requires-4 c κs = search needs
+
+shared-slice-read-narrow-5 : tie.Need-shared-slice-read-narrow-5
+shared-slice-read-narrow-5 c = search needs
+
+narrow-requires-5 : tie.Need-narrow-requires-5
+narrow-requires-5 c κs = search needs
+
+shared-slice-read-narrow-6 : tie.Need-shared-slice-read-narrow-6
+shared-slice-read-narrow-6 c = search needs
+
+narrow-requires-6 : tie.Need-narrow-requires-6
+narrow-requires-6 c κs = search needs
+
+shared-slice-read-narrow-7 : tie.Need-shared-slice-read-narrow-7
+shared-slice-read-narrow-7 c = search needs
+
+narrow-requires-7 : tie.Need-narrow-requires-7
+narrow-requires-7 c κs = search needs
+
+shared-slice-read-narrow-8 : tie.Need-shared-slice-read-narrow-8
+shared-slice-read-narrow-8 c = search needs
+
+narrow-requires-8 : tie.Need-narrow-requires-8
+narrow-requires-8 c κs = search needs
 
 returns : tie.Need-returns
-unfolding registersIn
+unfolding registersIn byteIn
 returns c = cc
 
 pub registers-in-spec : {M : Type 1} → statement M
 registers-in-spec =
     tie.close
     (tie.spec
-    byte-in-requires
-    byte-in-requires-2
-    byte-in-requires-3
-    byte-in-requires-4
-    byte-in-requires-5
-    byte-in-requires-6
-    byte-in-requires-7
-    byte-in-requires-8
+    shared-slice-read-narrow
+    narrow-requires
+    shared-slice-read-narrow-2
+    narrow-requires-2
+    shared-slice-read-narrow-3
+    narrow-requires-3
+    shared-slice-read-narrow-4
+    narrow-requires-4
+    shared-slice-read-narrow-5
+    narrow-requires-5
+    shared-slice-read-narrow-6
+    narrow-requires-6
+    shared-slice-read-narrow-7
+    narrow-requires-7
+    shared-slice-read-narrow-8
+    narrow-requires-8
     returns)

@@ -1,0 +1,14 @@
+-- A row that is shorter than a record is read as its cells with zeros after them: each definition reads the same cells of both.
+-- Assumes nothing.
+use mathlib.Core.Path.{_≡_, refl}
+use mathlib.Core.List.{List}
+use Prim.Native.Nat.{ℕ}
+use Rattle.entries.specs.Entries.{byteIn, isFlag, flagIn, flaggedIn, cellsOf, registersIn, operandOf, valueIn, valuesIn, allFlagged, toldIn, entryOf}
+
+pub operand-of-cells : (row : List ℕ) → operandOf (cellsOf row) ≡ operandOf row
+unfolding cellsOf operandOf registersIn flagIn byteIn
+operand-of-cells row = refl
+
+pub entry-of-cells : (row : List ℕ) → entryOf (cellsOf row) ≡ entryOf row
+unfolding cellsOf entryOf toldIn allFlagged flaggedIn isFlag operandOf registersIn valuesIn valueIn flagIn byteIn
+entry-of-cells row = refl
