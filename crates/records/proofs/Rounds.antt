@@ -9,7 +9,7 @@ use lib.ListN.{length, length-append, getD, take, drop}
 use Rattle.ground.specs.Stores.{put, Wrote}
 use Rattle.records.specs.Objects.{bytesOf, dataOf, objectsOf, tooFar}
 use Rattle.records.specs.Text.{Event, Start, Byte, events}
-use Rattle.records.specs.Steps.{ahead, Goes, Walked}
+use Rattle.records.specs.Steps.{Present, holding, ahead, Goes, Walked}
 use Rattle.records.specs.Rows.{rowAt}
 use Rattle.records.specs.declared.objects.Row.{Row}
 use Rattle.records.specs.declared.walk.Open.{Open}
@@ -28,29 +28,31 @@ use Rattle.records.proofs.Tables.{
 }
 
 -- the way from one place of the walk to another: what is written in the end is the same
-pub record Along (d : List ℕ) (s : Open) (es : List Event) (e : List ℕ) (r : Open) (fs : List Event) : Type 0 where
+pub record Along (d : List ℕ) (s : Present) (es : List Event) (e : List ℕ) (r : Present) (fs : List Event) : Type 0 where
   pub size : r .at + length (ahead r fs) ≡ s .at + length (ahead s es)
   pub buffer : put e (r .at) (ahead r fs) ≡ put d (s .at) (ahead s es)
   pub small : r .n < 32
+  pub whole : length (r .bytes) ≡ 32
   pub long : length e ≡ length d
 
-pub along-here : (d : List ℕ) (s : Open) (es : List Event) → s .n < 32 → Along d s es d s es
-along-here d s es h = record { size = refl; buffer = refl; small = h; long = refl }
+pub along-here : (d : List ℕ) (s : Present) (es : List Event) → s .n < 32 → length (s .bytes) ≡ 32 → Along d s es d s es
+along-here d s es h l = record { size = refl; buffer = refl; small = h; whole = l; long = refl }
 
 pub along-then :
-    {d e f : List ℕ} {s r t : Open} {es fs gs : List Event} →
+    {d e f : List ℕ} {s r t : Present} {es fs gs : List Event} →
     Along d s es e r fs → Along e r fs f t gs → Along d s es f t gs
 along-then v w = record {
   size = w .size ∙ v .size;
   buffer = w .buffer ∙ v .buffer;
   small = w .small;
+  whole = w .whole;
   long = w .long ∙ v .long;
 }
 
 pub along-goes :
-    {d e : List ℕ} {s r : Open} {n : ℕ} (more : List Event → List Event) (es : List Event) →
+    {d e : List ℕ} {s r : Present} {n : ℕ} (more : List Event → List Event) (es : List Event) →
     Goes d s more n r e → length e ≡ length d → Along d s (more es) e r es
-along-goes more es g l = record { size = g .size es; buffer = g .buffer es; small = g .small; long = l }
+along-goes more es g l = record { size = g .size es; buffer = g .buffer es; small = g .small; whole = g .whole; long = l }
 
 -- the events of n values from place k on, and then es
 abbrev pub valuesThen : List ℕ → ℕ → ℕ → List Event → List Event
@@ -61,7 +63,7 @@ abbrev pub objectsThen : List ℕ → List ℕ → ℕ → ℕ → List Event
 objectsThen os vs i k = events (objectsOf (drop i os) (drop k vs))
 
 -- the inner loop: n values are left of an object
-pub record Inner (vs : List ℕ) (room : ℕ) (d : List ℕ) (s₀ : Open) (k₀ n₀ : ℕ) (es : List Event) (e : List ℕ) (s : Open) (k n : ℕ) : Type 0 where
+pub record Inner (vs : List ℕ) (room : ℕ) (d : List ℕ) (s₀ : Present) (k₀ n₀ : ℕ) (es : List Event) (e : List ℕ) (s : Present) (k n : ℕ) : Type 0 where
   pub way : Along d s₀ (valuesThen vs k₀ n₀ es) e s (valuesThen vs k n es)
   pub place : s .start + s .n + length (dataOf (take (2 * n) (drop k vs))) ≤ 65536
   pub end : k + 2 * n ≡ k₀ + 2 * n₀
@@ -69,11 +71,11 @@ pub record Inner (vs : List ℕ) (room : ℕ) (d : List ℕ) (s₀ : Open) (k₀
   pub within : s .at ≤ room
 
 pub inner-holds :
-    {vs : List ℕ} {room : ℕ} {d : List ℕ} {s : Open} {k n : ℕ} {es : List Event} →
-    s .n < 32 → s .start + s .n + length (dataOf (take (2 * n) (drop k vs))) ≤ 65536 → k + 2 * n ≤ length vs → s .at ≤ room →
+    {vs : List ℕ} {room : ℕ} {d : List ℕ} {s : Present} {k n : ℕ} {es : List Event} →
+    s .n < 32 → length (s .bytes) ≡ 32 → s .start + s .n + length (dataOf (take (2 * n) (drop k vs))) ≤ 65536 → k + 2 * n ≤ length vs → s .at ≤ room →
     Inner vs room d s k n es d s k n
-inner-holds {vs} {d = d} {s} {k} {n} {es} small place there within = record {
-  way = along-here d s (valuesThen vs k n es) small;
+inner-holds {vs} {d = d} {s} {k} {n} {es} small whole place there within = record {
+  way = along-here d s (valuesThen vs k n es) small whole;
   place = place;
   end = refl;
   there = there;
@@ -85,7 +87,7 @@ bytes-then :
 bytes-then [] cs es = refl
 bytes-then (b ∷ bs) cs es = ap (λ (l : List Event). Byte b ∷ l) (bytes-then bs cs es)
 
-module _ (vs : List ℕ) {room : ℕ} {d : List ℕ} {s₀ : Open} {k₀ n₀ : ℕ} {es : List Event} {e : List ℕ} {s : Open} (k n : ℕ) (w : Inner vs room d s₀ k₀ n₀ es e s k n) (some : 0 < n) where
+module _ (vs : List ℕ) {room : ℕ} {d : List ℕ} {s₀ : Present} {k₀ n₀ : ℕ} {es : List Event} {e : List ℕ} {s : Present} (k n : ℕ) (w : Inner vs room d s₀ k₀ n₀ es e s k n) (some : 0 < n) where
   abbrev value : List ℕ
   value = bytesOf (getD vs k 0) (getD vs (k + 1) 0)
 
@@ -99,7 +101,7 @@ module _ (vs : List ℕ) {room : ℕ} {d : List ℕ} {s₀ : Open} {k₀ n₀ : 
   pub value-near : s .start + s .n + length value ≤ 65536
   value-near = omega (arith, w .place, parts-size)
 
-  module _ {f : List ℕ} {r : Open} (g : Goes e s (λ fs. map Byte value ++ fs) (s .start + s .n + length value) r f) (l : length f ≡ length e) where
+  module _ {f : List ℕ} {r : Present} (g : Goes e s (λ fs. map Byte value ++ fs) (s .start + s .n + length value) r f) (l : length f ≡ length e) where
     -- the way over the value
     pub value-way : Along d s₀ (valuesThen vs k₀ n₀ es) f r (valuesThen vs (k + 2) (n - 1) es)
     value-way =
@@ -116,7 +118,7 @@ module _ (vs : List ℕ) {room : ℕ} {d : List ℕ} {s₀ : Open} {k₀ n₀ : 
     }
 
 -- the outer loop
-pub record Outer (os vs : List ℕ) (room : ℕ) (d : List ℕ) (s₀ : Open) (es : List Event) (e : List ℕ) (s : Open) (i k : ℕ) : Type 0 where
+pub record Outer (os vs : List ℕ) (room : ℕ) (d : List ℕ) (s₀ : Present) (es : List Event) (e : List ℕ) (s : Present) (i k : ℕ) : Type 0 where
   pub way : Along d s₀ es e s (objectsThen os vs i k)
   pub left : Left os vs i k
   pub near : tooFar (objectsOf (drop i os) (drop k vs)) ≡ false
@@ -124,25 +126,28 @@ pub record Outer (os vs : List ℕ) (room : ℕ) (d : List ℕ) (s₀ : Open) (e
   pub within : s .at ≤ room
 
 -- the ways out: all objects passed, or past the room
-pub record Outcome (room : ℕ) (d : List ℕ) (s₀ : Open) (es : List Event) (e : List ℕ) (s : Open) : Type 0 where
+pub record Outcome (room : ℕ) (d : List ℕ) (s₀ : Present) (es : List Event) (e : List ℕ) (s : Present) : Type 0 where
   pub going : s .at ≤ room → Along d s₀ es e s [] × (s .start + s .n ≤ 65536)
   pub stopped : room < s .at → room < s₀ .at + length (ahead s₀ es)
+  pub whole : length (s .bytes) ≡ 32
   pub long : length e ≡ length d
 
 pub outcome-over :
-    {room : ℕ} {d : List ℕ} {s₀ : Open} {es : List Event} {e : List ℕ} {s : Open} {fs : List Event} →
+    {room : ℕ} {d : List ℕ} {s₀ : Present} {es : List Event} {e : List ℕ} {s : Present} {fs : List Event} →
     Along d s₀ es e s fs → room < s .at → Outcome room d s₀ es e s
 outcome-over w h = record {
   going = λ g. absurd (omega arith);
   stopped = λ _. omega (arith, w .size);
+  whole = w .whole;
   long = w .long;
 }
 
-module _ {os vs : List ℕ} {room : ℕ} {d : List ℕ} {s₀ : Open} {es : List Event} {e : List ℕ} {s : Open} {i k : ℕ} (w : Outer os vs room d s₀ es e s i k) where
+module _ {os vs : List ℕ} {room : ℕ} {d : List ℕ} {s₀ : Present} {es : List Event} {e : List ℕ} {s : Present} {i k : ℕ} (w : Outer os vs room d s₀ es e s i k) where
   pub outcome-done : length os - i < 3 → Outcome room d s₀ es e s
   outcome-done h = record {
     going = λ _. (rw (ap events (objects-done os (drop k vs) i h)) at (w .way), w .place);
     stopped = λ g. absurd (omega (arith, w .within));
+    whole = w .way .whole;
     long = w .way .long;
   }
 
@@ -159,7 +164,7 @@ module _ {os vs : List ℕ} {room : ℕ} {d : List ℕ} {s₀ : Open} {es : List
           within = w .within;
         })
 
-    module _ (t : row .kind ≡ 1) {f : List ℕ} {r : Open} (g : Goes e s (λ fs. Start (row .address) ∷ fs) (row .address) r f) (l : length f ≡ length e) where
+    module _ (t : row .kind ≡ 1) {f : List ℕ} {r : Present} (g : Goes e s (λ fs. Start (row .address) ∷ fs) (row .address) r f) (l : length f ≡ length e) where
       -- the way to the first value of an object with data
       pub begin-way : Along d s₀ es f r (valuesThen vs k (row .count) (objectsThen os vs (i + 3) (k + 2 * row .count)))
       begin-way =
@@ -168,11 +173,11 @@ module _ {os vs : List ℕ} {room : ℕ} {d : List ℕ} {s₀ : Open} {es : List
 
       pub outer-begun : r .at ≤ room → Inner vs room f r k (row .count) (objectsThen os vs (i + 3) (k + 2 * row .count)) f r k (row .count)
       outer-begun within =
-          inner-holds (g .small) (omega (arith, g .place, ends-near os i row h is vs k a (w .near))) (values-there os i row h is vs k (w .left)) within
+          inner-holds (g .small) (g .whole) (omega (arith, g .place, ends-near os i row h is vs k a (w .near))) (values-there os i row h is vs k (w .left)) within
 
       -- an object with data, all its values passed
       pub outer-with :
-          {o : List ℕ} {q : Open} {m n : ℕ} →
+          {o : List ℕ} {q : Present} {m n : ℕ} →
           Inner vs room f r k (row .count) (objectsThen os vs (i + 3) (k + 2 * row .count)) o q m n → n ≤ 0 →
           Outer os vs room d s₀ es o q (i + 3) m
       outer-with {o} {q} {m} {n} v z =
@@ -187,12 +192,12 @@ module _ {os vs : List ℕ} {room : ℕ} {d : List ℕ} {s₀ : Open} {es : List
 
 -- what is told of a place by equations
 pub outcome-moved :
-    {room : ℕ} {d : List ℕ} {s₀ : Open} {es : List Event} {e o : List ℕ} {r s : Open} →
-    Outcome room d s₀ es e r → o ≡ e → s ≡ r → Outcome room d s₀ es o s
-outcome-moved w p q = rw (p, q) w
+    {room : ℕ} {d : List ℕ} {s₀ : Present} {es : List Event} {e o bs cs : List ℕ} {r s : Open} →
+    Outcome room d s₀ es e (holding r bs) → cs ≡ bs → o ≡ e → s ≡ r → Outcome room d s₀ es o (holding s cs)
+outcome-moved w p q h = rw (p, q, h) w
 
 -- the end of the walk, from an outcome of its loops
-module _ {room : ℕ} {d : List ℕ} {s₀ : Open} {es : List Event} {e : List ℕ} {s : Open} (t : List ℕ) (first : s₀ .at ≡ 0) (whole : ahead s₀ es ≡ t) (o : Outcome room d s₀ es e s) where
+module _ {room : ℕ} {d : List ℕ} {s₀ : Present} {es : List Event} {e : List ℕ} {s : Present} (t : List ℕ) (first : s₀ .at ≡ 0) (whole : ahead s₀ es ≡ t) (o : Outcome room d s₀ es e s) where
   pub walked-over : room < s .at → Walked d t room (s .at) e
   walked-over h = record {
     done = λ g. absurd (omega arith);

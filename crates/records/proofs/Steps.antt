@@ -14,8 +14,7 @@ use Rattle.ground.proofs.Stores.{rest}
 use Rattle.ground.proofs.Choices.{pick-true, pick-false}
 use Rattle.records.specs.Line.{line}
 use Rattle.records.specs.Text.{Rec, Event, Start, Byte, close, recsFrom, text}
-use Rattle.records.specs.Steps.{pending, closing, ahead, Restarted, Goes}
-use Rattle.records.specs.declared.walk.Open.{Open}
+use Rattle.records.specs.Steps.{Present, pending, closing, ahead, Restarted, Goes}
 use Rattle.records.proofs.Writing.{length-line}
 
 pub closing-line : (a : ℕ) (p : List ℕ) → 0 < length p → closing a p ≡ line 0 a p
@@ -53,20 +52,21 @@ module _ (a : ℕ) (p : List ℕ) (b : ℕ) (es : List Event) where
 
 -- a record without bytes is not written
 pub restarted-none :
-    (d : List ℕ) (s : Open) (start : ℕ) → s .n ≡ 0 →
+    (d : List ℕ) (s : Present) (start : ℕ) → s .n ≡ 0 → length (s .bytes) ≡ 32 →
     Restarted d s start (record { start = start; n = s .n; at = s .at; bytes = s .bytes }) d
-restarted-none d s start z = record {
+restarted-none d s start z l = record {
   wrote = rw z (record { next = sym (add-zero (s .at)); buffer = refl });
   begun = refl;
   none = z;
+  whole = l;
 }
 
-begun : {d e : List ℕ} {g r : Open} {start : ℕ} → Restarted d g start r e → (es : List Event) → ahead r es ≡ text (recsFrom start [] es)
+begun : {d e : List ℕ} {g r : Present} {start : ℕ} → Restarted d g start r e → (es : List Event) → ahead r es ≡ text (recsFrom start [] es)
 begun w es = rw (w .begun, w .none)
 
 -- the record g, which s has become, is closed, and one at start begun
 module _
-    {d e : List ℕ} {g r : Open} {start : ℕ} (s : Open) (more : List Event → List Event)
+    {d e : List ℕ} {g r : Present} {start : ℕ} (s : Present) (more : List Event → List Event)
     (w : Restarted d g start r e) (same : g .at ≡ s .at)
     (law : (es : List Event) → ahead s (more es) ≡ closing (g .start) (pending g) ++ text (recsFrom start [] es)) where
   pub goes-restart : Goes d s more start r e
@@ -85,29 +85,32 @@ module _
         ∙ ap (put d (g .at)) (sym (law es))
         ∙ ap (λ (k : ℕ). put d k (ahead s (more es))) same;
     small = omega (arith, w .none);
+    whole = w .whole;
     place = omega (arith, w .begun, w .none);
   }
 
 -- nothing is written
 pub goes-stay :
-    (d : List ℕ) (s r : Open) (next : ℕ) (more : List Event → List Event) →
-    ((es : List Event) → ahead r es ≡ ahead s (more es)) → r .at ≡ s .at → r .n < 32 → r .start + r .n ≡ next →
+    (d : List ℕ) (s r : Present) (next : ℕ) (more : List Event → List Event) →
+    ((es : List Event) → ahead r es ≡ ahead s (more es)) → r .at ≡ s .at → r .n < 32 → length (r .bytes) ≡ 32 → r .start + r .n ≡ next →
     Goes d s more next r d
-goes-stay d s r next more law same small place = record {
+goes-stay d s r next more law same small whole place = record {
   size = λ es. omega (arith, same, ap length (law es));
   buffer = λ es. ap (λ (k : ℕ). put d k (ahead r es)) same ∙ ap (put d (s .at)) (law es);
   small = small;
+  whole = whole;
   place = place;
 }
 
 -- one step after the other
 pub goes-then :
-    {d e f : List ℕ} {s r t : Open} {m n : ℕ} (more further : List Event → List Event) →
+    {d e f : List ℕ} {s r t : Present} {m n : ℕ} (more further : List Event → List Event) →
     Goes d s more m r e → Goes e r further n t f → Goes d s (λ es. more (further es)) n t f
 goes-then more further v w = record {
   size = λ es. w .size es ∙ v .size (further es);
   buffer = λ es. w .buffer es ∙ v .buffer (further es);
   small = w .small;
+  whole = w .whole;
   place = w .place;
 }
 
@@ -116,5 +119,5 @@ pub pending-grown : (bytes : List ℕ) (n b : ℕ) → n < length bytes → take
 pending-grown bytes n b h = rw add-one (take-suc-set bytes n b h)
 
 -- the array holds the pending bytes
-pub pending-length : (s : Open) → length (s .bytes) ≡ 32 → s .n ≤ 32 → length (pending s) ≡ s .n
+pub pending-length : (s : Present) → length (s .bytes) ≡ 32 → s .n ≤ 32 → length (pending s) ≡ s .n
 pending-length s l h = length-take-le (s .n) (s .bytes) (omega arith)
