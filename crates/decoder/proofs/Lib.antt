@@ -1,4 +1,5 @@
 pub mod Bounds
+pub mod Heads
 pub mod Origins
 pub mod Bytes
 pub mod Instructions

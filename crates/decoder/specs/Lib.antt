@@ -2,4 +2,5 @@ pub mod Origin
 pub mod Meaning
 pub mod Operands
 pub mod Front
+pub mod Head
 pub mod Run

@@ -21,7 +21,8 @@ ghost use Rattle.rows.specs.Sizes.{isWide, isLong, numberAt};
 ghost use Rattle.decoder.specs.Origin.{shifted};
 ghost use Rattle.decoder.specs.Meaning.{refuse, joined};
 ghost use Rattle.decoder.specs.Operands.{restOf};
-ghost use Rattle.decoder.specs.Front.{isPrefix, codedOf, prefixedOf, frontOf};
+ghost use Rattle.decoder.specs.Front.{isPrefix, codedOf, frontOf};
+ghost use Rattle.decoder.specs.Head.{behindPrefix, headOf};
 
 pub fn refused(number: u8) -> Decoded
     ensures { λ r. ⌜ r ≡ refuse number ⌝ }
@@ -136,27 +137,55 @@ fn coded(page: u8, code: u8, size: u8, rest: Rest, from: Origin) -> Decoded
     }
 }
 
-// The instruction whose code stands at a place, after a prefix.
-fn prefixed(bytes: &[u8], at: usize, page: u8, from: Origin) -> Decoded
-    ensures { λ r. ⌜ r ≡ prefixedOf page (drop at (now (bytes .entry))) from ⌝ }
-{
-    if bytes.len() <= at {
-        return refused(CUT_SHORT);
-    }
-    let code = bytes[at];
-    coded(page, code, 2, rest_of(bytes, at + 1), from)
+// What an instruction begins with: a code of a page, of so many bytes with its prefix; or the bytes end before it.
+enum Head {
+    Code { page: u8, code: u8, size: u8 },
+    Cut,
 }
 
-// The instruction that begins at a place, wherever it ends.
+// The code at a place, behind the prefix of its page.
+fn behind_prefix(bytes: &[u8], at: usize, page: u8) -> Head
+    ensures { λ r. ⌜ r ≡ behindPrefix page (drop at (now (bytes .entry))) ⌝ }
+{
+    if bytes.len() <= at {
+        return Head::Cut;
+    }
+    let code = bytes[at];
+    Head::Code {
+        page,
+        code,
+        size: 2,
+    }
+}
+
+// What an instruction begins with that begins at a place.
+fn head_at(bytes: &[u8], at: usize) -> Head
+    ensures { λ r. ⌜ r ≡ headOf (drop at (now (bytes .entry))) ⌝ }
+{
+    if bytes.len() <= at {
+        return Head::Cut;
+    }
+    let first = bytes[at];
+    if is_prefix(first) {
+        return behind_prefix(bytes, at + 1, first);
+    }
+    Head::Code {
+        page: 0x00,
+        code: first,
+        size: 1,
+    }
+}
+
+// The instruction that begins at a place, wherever it ends. Its operand is read in one place, with a prefix and without.
 pub fn front(bytes: &[u8], at: usize, from: Origin) -> Decoded
     ensures { λ r. ⌜ r ≡ frontOf (drop at (now (bytes .entry))) from ⌝ }
 {
-    if bytes.len() <= at {
-        return refused(CUT_SHORT);
+    let head = head_at(bytes, at);
+    match head {
+        Head::Code { page, code, size } => {
+            let rest = rest_of(bytes, at + size as usize);
+            coded(page, code, size, rest, from)
+        }
+        Head::Cut => refused(CUT_SHORT),
     }
-    let code = bytes[at];
-    if is_prefix(code) {
-        return prefixed(bytes, at + 1, code, from);
-    }
-    coded(0x00, code, 1, rest_of(bytes, at + 1), from)
 }
