@@ -1,6 +1,6 @@
 -- The value of a digit, by the range that its character is in.
 -- Assumes nothing.
-use borrow.Author.Tests.{le-leb, lt-leb, lt-ltb, le-ltb, ltb-true, ltb-false}
+use borrow.Author.Tests.{le-leb, lt-leb, leb-true, lt-ltb, le-ltb, ltb-true, ltb-false}
 use mathlib.Core.Path.{_≡_, refl, sym, ap, _∙_}
 use mathlib.Core.Bool.{Bool, true, false, _&&_, and-false}
 use mathlib.Core.List.{List, [], _∷_}
@@ -22,20 +22,16 @@ pub both-true : (a b : Bool) → (a && b) ≡ true → (a ≡ true) × (b ≡ tr
 both-true a b e = (both-first a b e, both-second a b e)
 
 module _ (a b c : ℕ) where
-  pub inside : a ≤ c → c ≤ b → (leb a c && leb c b) ≡ true
+  inside : a ≤ c → c ≤ b → (leb a c && leb c b) ≡ true
   inside h k = rw (le-leb a c h, le-leb c b k)
 
-  pub under : c < a → (leb a c && leb c b) ≡ false
-  under h = rw (lt-leb a c h)
-
-  pub over : b < c → (leb a c && leb c b) ≡ false
+  over : b < c → (leb a c && leb c b) ≡ false
   over h = rw (lt-leb c b h) (and-false (leb a c))
 
-module _ (c : ℕ) where
-  pub digit-decimal : 48 ≤ c → c ≤ 57 → c - 48 ≡ digitOf c
-  unfolding digitOf
-  digit-decimal h k = sym (pick-true _ _ (inside 48 57 c h k))
+  pub at-least : (leb a c && leb c b) ≡ true → a ≤ c
+  at-least t = leb-true a c (both-true (leb a c) (leb c b) t .0)
 
+module _ (c : ℕ) where
   pub digit-upper : 65 ≤ c → c ≤ 70 → c - 55 ≡ digitOf c
   unfolding digitOf
   digit-upper h k = sym (pick-false _ _ (over 48 57 c (omega arith)) ∙ pick-true _ _ (inside 65 70 c h k))
@@ -46,12 +42,6 @@ module _ (c : ℕ) where
       sym (pick-false _ _ (over 48 57 c (omega arith))
       ∙ pick-false _ _ (over 65 70 c (omega arith))
       ∙ pick-true _ _ (inside 97 102 c h k))
-
-  -- a character in none of the ranges, by what it is not in
-  pub digit-none :
-      (leb 48 c && leb c 57) ≡ false → (leb 65 c && leb c 70) ≡ false → (leb 97 c && leb c 102) ≡ false → 16 ≡ digitOf c
-  unfolding digitOf
-  digit-none p q r = sym (pick-false _ _ p ∙ pick-false _ _ q ∙ pick-false _ _ r)
 
 -- two values that are below 16 make a byte
 pub pair-small : (h l : ℕ) → (ltb h 16 && ltb l 16) ≡ true → 16 * h + l ≤ 256

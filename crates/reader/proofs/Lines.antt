@@ -2,7 +2,7 @@
 -- Assumes nothing.
 use borrow.Author.Tests.{lt-ltb, ltb-true, eq-eqb, ne-eqb, eqb-true, eqb-false}
 use mathlib.Core.Path.{_≡_, refl, sym, ap, _∙_}
-use mathlib.Core.Bool.{Bool, true, false, _&&_, _||_, or-true, and-false}
+use mathlib.Core.Bool.{Bool, true, false, _&&_, _||_, or-true, and-false, false≢true}
 use mathlib.Core.List.{List, [], _∷_}
 use Prim.Native.Nat.{ℕ, zero, suc, _+_, _-_, _*_, _%_, _≤_, _<_, suc-le-suc}
 use native.Mathlib.Omega.{arith}
@@ -17,9 +17,9 @@ use Rattle.ground.specs.Words.{word}
 use Rattle.records.specs.Line.{sum}
 use Rattle.reader.specs.Digits.{bytesIn, behind}
 use Rattle.reader.specs.Lines.{countOf, addressOf, typeOf, dataOf, sound, endsLine, afterEnd, NoRecord, recordOf, lineIn}
-use Rattle.reader.specs.Steps.{pairAt, EndIs, meant, DataFits, Fits, lineBy, SoundAt, soundLine, LineIs}
+use Rattle.reader.specs.Steps.{pairAt, EndIs, meant, DataFits, Fits, lineBy, SoundAt, soundLine, isLine, LineIs}
 use Rattle.reader.specs.declared.Line.the-variants.{End, Broken}
-use Rattle.reader.proofs.Digits.{both-true, at-front, bytes-after, byte-small, byte-there}
+use Rattle.reader.proofs.Digits.{both-true, at-front, pair-there, bytes-after, byte-small, byte-there}
 
 -- a character that is not 0 stands within the text
 pub stands : (s : List ℕ) (i : ℕ) → 0 < getD s i 0 → i < length s
@@ -214,6 +214,53 @@ module _ (s : List ℕ) (at end total next count : ℕ) (colon : getD s at 0 ≡
             ∙ record-right s at count next (sound-there t);
         fits = line-fits s at count next (sound-there t);
       }
+
+-- the parts of a line that stands at the front of a text
+known-parts : (t : List ℕ) → isLine (lineIn t) ≡ true → (getD t 0 0 ≡ 58) × ((sound (bytesIn (drop 1 t)) && endsLine (behind (drop 1 t))) ≡ true)
+unfolding lineIn pick
+known-parts [] k = absurd (false≢true k)
+known-parts (c ∷ t) k = by-cases (eqb c 58) refl (sound (bytesIn t) && endsLine (behind t)) refl k
+  where
+    by-cases : (a : Bool) → eqb c 58 ≡ a → (b : Bool) → (sound (bytesIn t) && endsLine (behind t)) ≡ b
+        → isLine (pick (a && b) (recordOf (bytesIn t) (afterEnd (behind t))) NoRecord) ≡ true → (c ≡ 58) × ((sound (bytesIn t) && endsLine (behind t)) ≡ true)
+    by-cases true p true q e = (eqb-true c 58 p, q)
+    by-cases true p false q e = absurd (false≢true e)
+    by-cases false p b q e = absurd (false≢true e)
+
+-- a line that is known to stand at a place
+module _ (s : List ℕ) (at : ℕ) (k : isLine (lineIn (drop at s)) ≡ true) where
+  parts : (getD s at 0 ≡ 58) × ((sound (bytesIn (drop (at + 1) s)) && endsLine (behind (drop (at + 1) s))) ≡ true)
+  parts =
+      let p = known-parts (drop at s) k in
+      (sym (at-front s at) ∙ p .0, rw (drop-drop 1 at s) at (p .1))
+
+  pub known-there : at < length s
+  known-there = stands s at (rw (parts .0) (omega arith))
+
+  module _ (count : ℕ) (given : count ≡ pairAt s (at + 1)) where
+    known-full : length (bytesIn (drop (at + 1) s)) ≡ count + 5
+    unfolding sound countOf
+    known-full =
+        let bs = bytesIn (drop (at + 1) s) in
+        let f = eqb-true (length bs) (countOf bs + 5) (both-true _ _ (both-true (sound bs) _ (parts .1) .0) .0) in
+        f ∙ ap (λ (n : ℕ). n + 5) (byte-at s at 0 (at + 1) (omega arith) (omega (arith, f)) ∙ sym given)
+
+    pub known-end : at + 11 + 2 * count ≤ length s
+    known-end =
+        omega (arith, pair-there s (at + 1 + 2 * (count + 4)) (byte-small s (at + 1) (count + 4) (omega (arith, known-full))) .0)
+
+    module _ (next : ℕ) (after : EndIs s (at + 11 + 2 * count) next) where
+      ended : at + 11 + 2 * count ≡ at + 1 + 2 * length (bytesIn (drop (at + 1) s))
+      ended = omega (arith, known-full)
+
+      passes : tested s at _ _ next count (parts .0) ended refl after given ≡ true
+      passes = tests-right s at _ _ next count (parts .0) ended refl after given ∙ parts .1
+
+      pub known-sound : SoundAt s at count next
+      known-sound = sound-there s at _ _ next count (parts .0) ended refl after given passes
+
+      pub known-line : LineIs s at (soundLine s at count next)
+      known-line = line-there s at _ _ next count (parts .0) ended refl after given passes
 
 -- a line that does not begin with a colon
 other-line : (t : List ℕ) → (getD t 0 0 ≡ 58 → ⊥) → lineIn t ≡ NoRecord

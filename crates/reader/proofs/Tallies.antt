@@ -17,9 +17,9 @@ use Rattle.ground.proofs.Stores.{put-length, put-append}
 use Rattle.records.specs.Text.{Rec}
 use Rattle.records.specs.Runs.{runsOf}
 use Rattle.reader.specs.Digits.{bytesIn}
-use Rattle.reader.specs.Lines.{Found, Good, Bad, more, found, recordsIn}
+use Rattle.reader.specs.Lines.{Front, Record, EndRecord, NoRecord, lineIn, Found, Good, Bad, more, found, recordsIn}
 use Rattle.reader.specs.Answers.{tooFar, bytesOf, rowsOf, sizeOf}
-use Rattle.reader.specs.Steps.{meant, DataFits, Fits, LineIs, begins, runsWith, counted, counts, total, totalled, rowed, rows, recordsOf, fine, start, StoredIs}
+use Rattle.reader.specs.Steps.{meant, DataFits, Fits, isLine, LineIs, begins, runsWith, counted, counts, total, totalled, rowed, rows, recordsOf, fine, start, StoredIs}
 use Rattle.reader.specs.declared.Read.{Read}
 use Rattle.reader.specs.declared.Tally.{Tally}
 use Rattle.reader.specs.declared.Line.{Line}
@@ -229,6 +229,15 @@ fine-size (Good rs) e = by-cases (tooFar rs) refl e
     by-cases true q f = let z : _≡_ {A = ℕ} 18 0 = sym (ap (λ (r : Read). r .refusal) (pick-true _ _ q)) ∙ f in let n : ⊥ = omega arith in absurd n
     by-cases false q f = rw q
 fine-size Bad e = let z : _≡_ {A = ℕ} 16 0 = e in let n : ⊥ = omega arith in absurd n
+
+-- a text that may be stored begins with a line
+pub fine-line : (s : List ℕ) → fine (recordsIn s) ≡ true → isLine (lineIn s) ≡ true
+fine-line s e = by-front (lineIn s) (sym (ap fine (records-on s)) ∙ e)
+  where
+    by-front : (f : Front) → fine (found f recordsIn) ≡ true → isLine f ≡ true
+    by-front (Record r after) e = refl
+    by-front EndRecord e = refl
+    by-front NoRecord e = absurd (false≢true e)
 
 -- a walk that stores: what is left, stored after what is, is the whole
 pub record Storing (s d t : List ℕ) (at : ℕ) (k : Tally) (d' t' : List ℕ) : Type 0 where

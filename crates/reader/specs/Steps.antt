@@ -1,7 +1,7 @@
 -- What the reader's own parts answer. No contract of a public function needs it.
 use mathlib.Core.Path.{_≡_}
 use Prim.Native.Nat.{ℕ, _+_, _-_, _*_, _%_, _≤_, _<_}
-use mathlib.Core.Bool.{Bool, false, not, _&&_, _||_}
+use mathlib.Core.Bool.{Bool, true, false, not, _&&_, _||_}
 use mathlib.Core.List.{List, [], _∷_}
 use lib.ListN.{length, getD, take, drop, set}
 use lib.Dec.{ltb, eqb}
@@ -77,6 +77,12 @@ pub record SoundAt (s : List ℕ) (at count next : ℕ) : Type 0 where
 unfoldable pub soundLine : List ℕ → ℕ → ℕ → ℕ → Line
 soundLine s at count next =
     lineBy (pairAt s (at + 7)) (word (pairAt s (at + 3)) (pairAt s (at + 5))) (at + 9) count next (length s)
+
+-- a line stands at the front of a text: a data record or the end record
+abbrev pub isLine : Front → Bool
+isLine (Record r after) = true
+isLine EndRecord = true
+isLine NoRecord = false
 
 pub record LineIs (s : List ℕ) (at : ℕ) (r : Line) : Type 0 where
   pub says : lineIn (drop at s) ≡ meant s r

@@ -14,9 +14,9 @@ ghost use Prim.Native.Nat.{_+_, _*_, _^_, _<_, _≤_};
 ghost use lib.ListN.{length, take, drop};
 ghost use Rattle.ground.specs.Stores.{put};
 ghost use Rattle.reader.specs.Digits.{digitOf, bytesIn};
-ghost use Rattle.reader.specs.Lines.{recordsIn};
+ghost use Rattle.reader.specs.Lines.{lineIn, recordsIn};
 ghost use Rattle.reader.specs.Answers.{refused, sizeOf, ReadIs};
-ghost use Rattle.reader.specs.Steps.{pairAt, PairsIs, EndIs, lineBy, SoundAt, soundLine, LineIs, begins, runsWith, counted, total, rowed, fine, StoredIs};
+ghost use Rattle.reader.specs.Steps.{pairAt, PairsIs, EndIs, lineBy, SoundAt, soundLine, isLine, LineIs, begins, runsWith, counted, total, rowed, fine, StoredIs};
 
 // The answer for a text: a refusal, or how many bytes and how many runs were handed out.
 pub struct Read {
@@ -25,16 +25,20 @@ pub struct Read {
     pub runs: usize,
 }
 
-// The value of a digit of either case; 16 where it is none.
+// The value of a digit of either case; 16 where it is none. Each range is one test, so that the compiler chooses and does not jump.
 fn digit(c: u8) -> u8
     ensures { λ r. ⌜ r ≡ digitOf c ⌝ }
 {
-    match c {
-        b'0'..=b'9' => c - 48,
-        b'A'..=b'F' => c - 55,
-        b'a'..=b'f' => c - 87,
-        _ => 16,
+    let decimal = (b'0' <= c) & (c <= b'9');
+    let upper = (b'A' <= c) & (c <= b'F');
+    let lower = (b'a' <= c) & (c <= b'f');
+    if decimal {
+        return c - 48;
     }
+    if upper {
+        return c - 55;
+    }
+    if lower { c - 87 } else { 16 }
 }
 
 // The byte of the two digits at a place; 256 where they are none.
@@ -149,6 +153,17 @@ fn line_at(text: &[u8], at: usize) -> Line
         return sound_line(text, at, count, next);
     }
     Line::Broken
+}
+
+// The line at a place where one is known to stand. Its count tells where it ends, and its digits are not walked again.
+fn known_line_at(text: &[u8], at: usize) -> Line
+    requires { ⌜ isLine (lineIn (drop at (now text))) ≡ true ⌝ }
+    ensures { λ r. ⌜ LineIs (now (text .entry)) at r ⌝ }
+{
+    let count = pair_at(text, at + 1);
+    let end = at + 11 + 2 * count;
+    let next = after_end(text, end);
+    sound_line(text, at, count, next)
 }
 
 // What records come to: their bytes, their runs, the address after the last byte, and whether a byte lies beyond 65535.
@@ -293,7 +308,7 @@ fn store_all(text: &[u8], bytes: &mut [u8], rows: &mut [u16])
         far: false,
     };
     loop {
-        let line = line_at(text, at);
+        let line = known_line_at(text, at);
         match line {
             Line::Data {
                 address,
