@@ -9,7 +9,7 @@ use native.Mathlib.Nat.{add-zero, not-suc-le-zero}
 use native.Mathlib.Numerals.{sub-one}
 use native.Mathlib.Omega.{arith}
 use lib.Dec.{ltb, leb}
-use lib.ListN.{length, getD, take, drop, length-drop}
+use lib.ListN.{length, getD, take, drop, length-drop, List·getD-eq-default}
 use lib.Seq.{getD-drop, drop-drop}
 use Rattle.ground.specs.Choice.{pick}
 use Rattle.ground.proofs.Choices.{pick-true, pick-false}
@@ -57,14 +57,18 @@ module _ (h l x y : ℕ) (p : h ≡ digitOf x) (q : l ≡ digitOf y) where
   unfolding pairOf
   pair-wrong t = rw (← p, ← q) (sym (pick-false _ _ t))
 
+-- a character with none after it is no pair
+pair-lone : (x : ℕ) → pairOf x 0 ≡ 256
+unfolding digitOf pairOf pick
+pair-lone x = pick-false _ _ (and-false (ltb (digitOf x) 16))
+
 -- the front of a text is a pair of digits and what stands behind it
 first-pair : (t : List ℕ) → pairOf (getD t 0 0) (getD t 1 0) < 256
     → (2 ≤ length t) × (bytesIn t ≡ pairOf (getD t 0 0) (getD t 1 0) ∷ bytesIn (drop 2 t))
 unfolding digitOf pairOf pick
 first-pair [] h = let z : 256 < 256 = h in let n : ⊥ = omega arith in absurd n
 first-pair (x ∷ []) h =
-    let e : pairOf x 0 ≡ 256 = pick-false _ _ (and-false (ltb (digitOf x) 16)) in
-    let n : ⊥ = omega (arith, e, h) in absurd n
+    let n : ⊥ = omega (arith, pair-lone x, h) in absurd n
 first-pair (x ∷ y ∷ t) h = (omega arith, pick-true _ _ (lt-ltb (pairOf x y) 256 h))
 
 -- or it is none
@@ -89,6 +93,10 @@ module _ (s : List ℕ) (i : ℕ) where
 
   pub none-there : 256 ≤ pairAt s i → bytesIn (drop i s) ≡ []
   none-there h = first-none (drop i s) (rw pair-front at h)
+
+  pub pair-cut : length s - i < 2 → 256 ≡ pairAt s i
+  unfolding pairAt
+  pair-cut h = sym (ap (pairOf (getD s i 0)) (List·getD-eq-default s 0 {n = i + 1} (omega arith)) ∙ pair-lone (getD s i 0))
 
   -- a turn of the loop over pairs
   pub pairs-on : pairAt s i < 256 → i + 2 + 2 * length (bytesIn (drop (i + 2) s)) ≡ i + 2 * length (bytesIn (drop i s))

@@ -41,13 +41,18 @@ fn digit(c: u8) -> u8
     if lower { c - 87 } else { 16 }
 }
 
-// The byte of the two digits at a place; 256 where they are none.
+// The byte of the two digits at a place; 256 where they are none. One test of the length serves both.
 fn pair_at(text: &[u8], at: usize) -> usize
     requires { ⌜ at ≤ length (now text) ⌝ }
     ensures { λ r. ⌜ (r ≡ pairAt (now (text .entry)) at) × (r ≤ 256) ⌝ }
 {
-    let high = digit(byte(text, at)) as usize;
-    let low = digit(byte(text, at + 1)) as usize;
+    if text.len() - at < 2 {
+        return 256;
+    }
+    let first = text[at];
+    let second = text[at + 1];
+    let high = digit(first) as usize;
+    let low = digit(second) as usize;
     let both = (high < 16) & (low < 16);
     if both { 16 * high + low } else { 256 }
 }
