@@ -37,7 +37,7 @@ fn form_line(code: u8) -> u64
     }
 }
 
-pub fn form_of(code: u8) -> u8
+pub(crate) fn form_of(code: u8) -> u8
     ensures { λ r. ⌜ r ≡ formOf code ⌝ }
 {
     digit(form_line(code), code)
@@ -122,7 +122,7 @@ fn prefixed_line(code: u8) -> u64
     }
 }
 
-pub fn place_of_code(page: u8, code: u8) -> usize
+pub(crate) fn place_of_code(page: u8, code: u8) -> usize
     ensures { λ r. ⌜ r ≡ placeOfCode page code ⌝ }
 {
     if page == 0x00 {
@@ -168,7 +168,7 @@ fn other_line(operation: u8) -> u64
 
 // The place of an operation that is no alias in the table of its page and of a form that it has. BSR, 113, stands too far on for a digit, and LDS,
 // 117, one place earlier among the immediates, which have no stores.
-pub fn place_of_operation(operation: u8, form: u8) -> usize
+pub(crate) fn place_of_operation(operation: u8, form: u8) -> usize
     ensures { λ r. ⌜ r ≡ placeOfOperation operation form ⌝ }
 {
     if operation < 96 {
