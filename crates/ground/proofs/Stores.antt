@@ -6,8 +6,8 @@ use Prim.Native.Nat.{ℕ, suc, _+_, _<_, _≤_}
 use native.Mathlib.Nat.{add-zero, zero-add}
 use native.Mathlib.Omega.{arith}
 use native.Mathlib.Numerals.{add-one}
-use lib.ListN.{length, getD, drop, set, length-set, length-append}
-use lib.Seq.{drop-cons, sets, sets-eq}
+use lib.ListN.{length, getD, drop, set, drop-of-length-le, length-set, length-append}
+use lib.Seq.{drop-cons, set-out, sets, sets-eq}
 use Rattle.ground.specs.Stores.{put, Wrote}
 
 pub put-length : (d : List ℕ) (at : ℕ) (xs : List ℕ) → length (put d at xs) ≡ length d
@@ -39,6 +39,23 @@ and-then {d} {e} {f} {at} {m} {r} {xs} {ys} v w = record {
 -- what a loop over a list has before it: the element at its place, and the rest
 pub drop-next : (l : List ℕ) (i : ℕ) → i < length l → drop i l ≡ getD l i 0 ∷ drop (i + 1) l
 drop-next l i h = rw (add-one, drop-cons l i 0)
+
+-- a loop that stores a text stores its next element, and at the end nothing is left
+pub put-next :
+    (d xs : List ℕ) (at i : ℕ) →
+    i < length xs →
+    put (set d (at + i) (getD xs i 0)) (at + (i + 1)) (drop (i + 1) xs) ≡ put d (at + i) (drop i xs)
+put-next d xs at i h =
+    ap (λ (k : ℕ). put (set d (at + i) (getD xs i 0)) k (drop (i + 1) xs)) (omega arith)
+    ∙ sym (ap (put d (at + i)) (drop-next xs i h))
+
+pub put-end : (d xs : List ℕ) (at i : ℕ) → length xs ≤ i → put d at (drop i xs) ≡ d
+put-end d xs at i h = ap (put d at) (drop-of-length-le xs {i = i} h)
+
+-- past the end nothing is stored
+pub put-past : (d : List ℕ) (at : ℕ) (xs : List ℕ) → length d ≤ at → put d at xs ≡ d
+put-past d at [] h = refl
+put-past d at (x ∷ xs) h = rw (set-out d at x h) (put-past d (at + 1) xs (omega arith))
 
 put-sets : (d : List ℕ) (at : ℕ) (xs : List ℕ) → put d at xs ≡ sets d at xs
 put-sets d at [] = refl

@@ -1,6 +1,7 @@
 // Lent buffers. What would lie past the end of a buffer is not stored.
 ghost use mathlib.Core.Path.{_≡_};
 ghost use lib.ListN.{set};
+ghost use Rattle.ground.specs.Stores.{put};
 
 // Stores a byte at a place.
 pub fn store(out: &mut [u8], at: usize, value: u8)
@@ -8,6 +9,19 @@ pub fn store(out: &mut [u8], at: usize, value: u8)
 {
     if at < out.len() {
         out[at] = value;
+    }
+}
+
+// Stores bytes from a place on.
+pub fn store_all(out: &mut [u8], at: usize, bytes: &[u8])
+    ensures { λ _. ⌜ now (out .exit) ≡ put (now (out .entry)) at (now (bytes .entry)) ⌝ }
+{
+    if at < out.len() {
+        let mut i: usize = 0;
+        while i < bytes.len() {
+            store(out, at + i, bytes[i]);
+            i += 1;
+        }
     }
 }
 

@@ -1,18 +1,18 @@
 -- What follows a code is at most three bytes with zeros after them, so an instruction is at most five, with zeros after them: each definition that
--- writes an operand writes one of four shapes. Storing at the front of a buffer goes byte by byte.
+-- writes an operand writes one of four shapes.
 -- Assumes nothing.
-use mathlib.Core.Path.{_≡_, refl, sym, ap, _∙_}
+use mathlib.Core.Path.{_≡_, refl, ap, _∙_}
 use mathlib.Core.Bool.{Bool, not, _&&_, _||_}
 use mathlib.Core.List.{List, [], _∷_, _++_}
-use Prim.Native.Nat.{ℕ, _+_, _-_, _<_, _≤_}
+use Prim.Native.Nat.{ℕ, _+_, _-_, _≤_}
 use native.Mathlib.Omega.{arith}
 use lib.Dec.{eqb}
-use lib.ListN.{length, take, drop, set, getD, replicate, drop-of-length-le, length-take}
-use lib.Seq.{length-take-le, getD-take}
+use lib.ListN.{length, take, drop, getD, replicate}
+use lib.Seq.{length-take-le}
 use Rattle.ground.specs.Stores.{put}
 use Rattle.ground.specs.Words.{plus, minus, high, low}
 use Rattle.ground.proofs.Choices.{by-pick}
-use Rattle.ground.proofs.Stores.{drop-next, put-front}
+use Rattle.ground.proofs.Stores.{put-front}
 use Rattle.values.specs.Widths.{validOf, signExtendedOf}
 use Rattle.rows.specs.declared.Coded.{Coded}
 use Rattle.rows.specs.declared.Coded.the-variants.{Code, Unknown, Missing}
@@ -135,26 +135,12 @@ build-five i v dirty address =
     by-pick P (eqb (earlyOf i v) 0)
     (by-pick P (eqb (chooseOf i v dirty address .refusal) 0) (laid-five (chooseOf i v dirty address) address) nothing) nothing
 
-pub built-five : {b : Built} (i : Instruction) (v : Values) (dirty : Bool) (address : ℕ) → b ≡ buildOf i v dirty address → Five (b .bytes) (b .length)
-built-five i v dirty address e = rw e (build-five i v dirty address)
+pub built-within : {b : Built} (i : Instruction) (v : Values) (dirty : Bool) (address : ℕ) → b ≡ buildOf i v dirty address → b .length ≤ length (b .bytes)
+built-within i v dirty address e =
+    let f = build-five i v dirty address in
+    rw e (omega (arith, f .all, f .most))
 
--- ---- storing at the front
--- one turn stores the next byte
-pub front-turn :
-    (d bytes : List ℕ) (n i : ℕ) →
-    i < n →
-    n ≤ length bytes →
-    put (set d i (getD bytes i 0)) (i + 1) (drop (i + 1) (take n bytes)) ≡ put d i (drop i (take n bytes))
-front-turn d bytes n i h k =
-    let e : length (take n bytes) ≡ n = length-take-le n bytes k in
-    sym (ap (put d i)
-    (drop-next (take n bytes) i (omega arith) ∙ ap (λ (x : ℕ). x ∷ drop (i + 1) (take n bytes)) (getD-take n bytes i 0 h)))
-
--- and nothing is left at the end
-pub front-end : (d bytes : List ℕ) (n i : ℕ) → n ≤ i → put d i (drop i (take n bytes)) ≡ d
-front-end d bytes n i h =
-    ap (put d i) (drop-of-length-le (take n bytes) {i = i} (omega (arith, length-take n bytes)))
-
+-- ---- stored at the front
 -- a whole store leaves the rest of the buffer as it was
 pub front-all : (d bytes : List ℕ) (n : ℕ) → n ≤ length bytes → n ≤ length d → put d 0 (take n bytes) ≡ take n bytes ++ drop n d
 front-all d bytes n h k =

@@ -10,7 +10,7 @@ use choosing::choose;
 use forms::form_for;
 use forms::is_lacking;
 use forms::needs_value;
-use ground::buffers::store;
+use ground::buffers::store_all;
 use ground::refusals;
 use names::*;
 use postbytes::Index;
@@ -22,9 +22,7 @@ use validity::is_sound;
 use values::Value;
 ghost use mathlib.Core.Path.{_≡_};
 ghost use mathlib.Core.Bool.{true, false};
-ghost use Prim.Native.Nat.{_≤_};
-ghost use lib.ListN.{length, take};
-ghost use Rattle.ground.specs.Stores.{put};
+ghost use lib.ListN.{length};
 ghost use Rattle.instruction.specs.Records.{sound};
 ghost use Rattle.instruction.specs.Forms.{lacks};
 ghost use Rattle.instruction.specs.Building.{noOperand, noInstruction, noValues, instructionOf, unmade, makeOf, operandRefusal, dirtiesOf, refusedWith, acceptedOf, buildOf, handed, freshOf, placedOf, bufferOf};
@@ -318,19 +316,6 @@ impl Instruction {
     }
 }
 
-// Stores the first bytes at the front of a buffer.
-fn store_front(out: &mut [u8], bytes: [u8; 5], length: u8)
-    requires { ⌜ length ≤ 5 ⌝ }
-    ensures { λ _. ⌜ now (out .exit) ≡ put (now (out .entry)) 0 (take length bytes) ⌝ }
-{
-    let end = length as usize;
-    let mut i: usize = 0;
-    while i < end {
-        store(out, i, bytes[i]);
-        i += 1;
-    }
-}
-
 // Builds into the front of a lent buffer: 9 comes last, and leaves the instruction and the buffer as they were.
 pub fn build_into(i: Instruction, v: Values, dirty: bool, address: u16, out: &mut [u8]) -> Placed
     ensures answer { λ r. ⌜ r ≡ placedOf i (buildOf i v dirty address) (length (now (out .entry))) ⌝ }
@@ -340,7 +325,8 @@ pub fn build_into(i: Instruction, v: Values, dirty: bool, address: u16, out: &mu
     let instruction = built.instruction;
     let bytes = built.bytes;
     let length = built.length;
-    if out.len() < length as usize {
+    let end = length as usize;
+    if out.len() < end {
         return Placed {
             refusal: refusals::NO_ROOM,
             instruction: i,
@@ -348,7 +334,7 @@ pub fn build_into(i: Instruction, v: Values, dirty: bool, address: u16, out: &mu
             dirties: false,
         };
     }
-    store_front(out, bytes, length);
+    store_all(out, 0, &bytes[..end]);
     Placed {
         refusal: built.refusal,
         instruction,

@@ -36,11 +36,13 @@ pub built-five : (entry : Record) (at : ℕ) → Five (builtAt entry at .bytes) 
 unfolding builtAt
 built-five entry at = fresh-five entry (at % 65536)
 
-pub built-bytes : (entry : Record) (at : ℕ) → length (bytesIn (builtAt entry at)) ≡ builtAt entry at .length
-built-bytes entry at =
-    let b = builtAt entry at in
+pub built-within : {b : Built} (entry : Record) (at : ℕ) → b ≡ builtAt entry at → b .length ≤ length (b .bytes)
+built-within entry at e =
     let five = built-five entry at in
-    length-take-le (b .length) (b .bytes) (omega (arith, five .all, five .most))
+    rw e (omega (arith, five .all, five .most))
+
+pub built-bytes : (entry : Record) (at : ℕ) → length (bytesIn (builtAt entry at)) ≡ builtAt entry at .length
+built-bytes entry at = length-take-le (builtAt entry at .length) (builtAt entry at .bytes) (built-within entry at refl)
 
 pub built-most : {b : Built} (entry : Record) (at : ℕ) → b ≡ builtAt entry at → b .length ≤ 5
 built-most entry at e = rw e (built-five entry at .most)

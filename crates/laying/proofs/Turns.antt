@@ -5,10 +5,9 @@ use mathlib.Core.List.{List, [], _∷_, _++_}
 use Prim.Native.Nat.{ℕ, zero, suc, _+_, _-_, _<_, _≤_}
 use native.Mathlib.Nat.{add-zero, sub-zero}
 use native.Mathlib.Omega.{arith}
-use lib.ListN.{length, take, drop, set, getD, length-append, length-take, drop-of-length-le}
-use lib.Seq.{length-take-le, getD-take}
+use lib.ListN.{length, length-append}
 use Rattle.ground.specs.Stores.{put}
-use Rattle.ground.proofs.Stores.{put-append, drop-next}
+use Rattle.ground.proofs.Stores.{put-append}
 use Rattle.instruction.specs.declared.Record.{Record}
 use Rattle.instruction.specs.declared.Built.{Built}
 use Rattle.instruction.specs.Building.{bytesIn}
@@ -107,22 +106,6 @@ module _
         }
 
 -- ---- storing
--- one byte of a build, from a place on
-pub byte-stored :
-    (d bytes : List ℕ) (n place i : ℕ) →
-    i < n →
-    n ≤ length bytes →
-    put (set d (place + i) (getD bytes i 0)) (place + (i + 1)) (drop (i + 1) (take n bytes)) ≡ put d (place + i) (drop i (take n bytes))
-byte-stored d bytes n place i h k =
-    let e : length (take n bytes) ≡ n = length-take-le n bytes k in
-    ap (λ (p : ℕ). put (set d (place + i) (getD bytes i 0)) p (drop (i + 1) (take n bytes))) (omega arith)
-    ∙ sym (ap (put d (place + i))
-    (drop-next (take n bytes) i (omega arith) ∙ ap (λ (x : ℕ). x ∷ drop (i + 1) (take n bytes)) (getD-take n bytes i 0 h)))
-
-pub bytes-stored : (d bytes : List ℕ) (n place i : ℕ) → n ≤ i → put d (place + i) (drop i (take n bytes)) ≡ d
-bytes-stored d bytes n place i h =
-    ap (put d (place + i)) (drop-of-length-le (take n bytes) {i = i} (omega (arith, length-take n bytes)))
-
 -- the bytes of one instruction, and those of the instructions after it
 pub built-stored :
     (d : List ℕ) (address n : ℕ) (entry : Record) (entries : List Record) (b : Built) →

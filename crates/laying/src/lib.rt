@@ -1,13 +1,13 @@
 // Laying: a list of instructions, fresh, end to end from an address into a lent buffer.
 use entries::entry_of;
-use ground::buffers::store;
+use ground::buffers::store_all;
 use ground::refusals;
 use instruction::Built;
 use instruction::Record;
 use instruction::assemble;
 ghost use mathlib.Core.Path.{_≡_};
-ghost use Prim.Native.Nat.{_+_, _<_, _≤_, _^_};
-ghost use lib.ListN.{length, take};
+ghost use Prim.Native.Nat.{_≤_};
+ghost use lib.ListN.{length};
 ghost use Rattle.ground.specs.Stores.{put};
 ghost use Rattle.laying.specs.Entries.{entryAt, entriesOf};
 ghost use Rattle.laying.specs.Laying.{Refused, builtAt, refusalAt, layFrom, layOf, answerOf, bufferOf};
@@ -103,19 +103,6 @@ pub fn measure(list: &[u16], address: u16, room: usize) -> Laid
     measure_rows(list, address, room)
 }
 
-// Stores the bytes of a build from a place on.
-fn store_built(out: &mut [u8], place: usize, bytes: [u8; 5], length: u8)
-    requires { ⌜ (length ≤ 5) × (place + 5 < 2 ^ 64) ⌝ }
-    ensures { λ _. ⌜ now (out .exit) ≡ put (now (out .entry)) place (take length bytes) ⌝ }
-{
-    let end = length as usize;
-    let mut i: usize = 0;
-    while i < end {
-        store(out, place + i, bytes[i]);
-        i += 1;
-    }
-}
-
 // Stores the bytes of each row after those of the row before it.
 fn store_rows(list: &[u16], address: u16, out: &mut [u8])
     ensures { λ _. ⌜ now (out .exit) ≡ put (now (out .entry)) 0 (bytesFrom (entriesOf (now (list .entry))) address) ⌝ }
@@ -126,8 +113,9 @@ fn store_rows(list: &[u16], address: u16, out: &mut [u8])
     while 0 < left {
         let built = built_at(list, row, address as usize + length);
         let bytes = built.bytes;
-        store_built(out, length, bytes, built.length);
-        length += built.length as usize;
+        let end = built.length as usize;
+        store_all(out, length, &bytes[..end]);
+        length += end;
         row += CELLS;
         left -= 1;
     }

@@ -2,11 +2,10 @@
 -- Assumes nothing.
 use mathlib.Core.Path.{_≡_, refl}
 use mathlib.Core.List.{List, [], _∷_, _++_, map}
-use Prim.Native.Nat.{ℕ, _+_, _*_, _≤_}
+use Prim.Native.Nat.{ℕ, _+_, _*_}
 use native.Mathlib.Omega.{arith}
 use lib.ListN.{length, length-append, set}
-use lib.Seq.{set-out}
-use Rattle.ground.specs.Stores.{put, Wrote}
+use Rattle.ground.specs.Stores.{Wrote}
 use Rattle.ground.specs.Words.{high, low}
 use Rattle.ground.proofs.Stores.{and-then}
 use Rattle.records.specs.Hex.{hexes}
@@ -43,11 +42,6 @@ pub length-text : (rs : List Rec) → length (text rs) ≡ 12 + sum (map (λ (r 
 length-text [] = length-line 1 0 []
 length-text (r ∷ rs) =
     omega (arith, length-append (line 0 (r .address) (r .bytes)) (text rs), length-line 0 (r .address) (r .bytes), length-text rs)
-
--- past the end of a buffer nothing is stored
-pub put-past : (d : List ℕ) (at : ℕ) (xs : List ℕ) → length d ≤ at → put d at xs ≡ d
-put-past d at [] h = refl
-put-past d at (x ∷ xs) h = rw (set-out d at x h) (put-past d (at + 1) xs (omega arith))
 
 pub penned-then :
     {d e f : List ℕ} {s m r : Pen} {bs cs : List ℕ} →

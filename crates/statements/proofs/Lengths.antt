@@ -8,9 +8,9 @@ use native.Mathlib.Nat.{min-eq-left, min-eq-right}
 use native.Mathlib.Omega.{arith}
 use lib.Dec.{leb}
 use lib.ListN.{length}
-use lib.Seq.{set-out}
 use borrow.Author.Tests.{leb-true, leb-false}
 use Rattle.ground.specs.Stores.{put}
+use Rattle.ground.proofs.Stores.{put-past}
 use Rattle.ground.proofs.Choices.{by-test}
 use Rattle.expressions.specs.declared.Answer.{Answer}
 use Rattle.instruction.specs.Building.{bytesIn}
@@ -63,10 +63,6 @@ unfolding valuesAt
 values-length list items ns ls i here dirty = values-even (statementAt list i) (entryAt list i) items ns ls here dirty
 
 -- ---- storing past the end
-put-out : (d : List ℕ) (at : ℕ) (xs : List ℕ) → length d ≤ at → put d at xs ≡ d
-put-out d at [] h = refl
-put-out d at (x ∷ xs) h = rw (set-out d at x h) (put-out d (at + 1) xs (omega arith))
-
 -- stores nothing, wherever past the end it is
 pub put-within : (d : List ℕ) (at : ℕ) (xs : List ℕ) → put d (min at (length d)) xs ≡ put d at xs
 put-within d at xs =
@@ -74,4 +70,4 @@ put-within d at xs =
     (λ e. ap (λ (k : ℕ). put d k xs) (min-eq-left (leb-true at (length d) e)))
     (λ e.
     let h : length d ≤ at = omega (arith, leb-false at (length d) e) in
-    ap (λ (k : ℕ). put d k xs) (min-eq-right h) ∙ put-out d (length d) xs (omega arith) ∙ sym (put-out d at xs h))
+    ap (λ (k : ℕ). put d k xs) (min-eq-right h) ∙ put-past d (length d) xs (omega arith) ∙ sym (put-past d at xs h))

@@ -6,6 +6,7 @@ use Prim.Native.Nat.{ℕ, _+_, _*_, _-_, _≤_}
 use native.Mathlib.Nat.{add-zero}
 use native.Mathlib.Omega.{arith}
 use lib.ListN.{length}
+use lib.Seq.{length-take-le}
 use denote.Ref.{now}
 use borrow.Author.Needs.{needs}
 use Rattle.ground.specs.Stores.{put}
@@ -14,7 +15,7 @@ use Rattle.instruction.specs.declared.Record.{Record}
 use Rattle.instruction.specs.Building.{bytesIn}
 use Rattle.laying.specs.Entries.{rowsIn, entryAt, entriesFrom, entriesOf}
 use Rattle.laying.specs.Exactly.{bytesFrom}
-use Rattle.laying.proofs.Builds.{built-most}
+use Rattle.laying.proofs.Builds.{built-within, built-most}
 use Rattle.laying.proofs.Turns.{entries-next, entries-done, built-stored}
 use Rattle.laying.proofs.store_rows.Statement.{statement}
 use Rattle.laying.proofs.store_rows.Tie as tie
@@ -39,14 +40,24 @@ add-built-at c = omega arith
 built-at-requires : tie.Need-built-at-requires Inv-loop μ-loop
 built-at-requires c κs = omega arith
 
-store-built-requires : tie.Need-store-built-requires Inv-loop μ-loop
-store-built-requires c κs =
-    let a = c .before .before .before .before .before .before .before .args in
-    let l = c .before .before .before .before .loop in
-    (built-most (entryAt (now (a .list)) (l .row)) (a .address + l .length) (c .before .before .built-at .ensures), omega arith)
+cast-end : tie.Need-cast-end Inv-loop μ-loop
+cast-end c = search needs
 
-cast-length : tie.Need-cast-length Inv-loop μ-loop
-cast-length c = search needs
+-- no more bytes than the build has
+within : (c : tie.After-built-at Inv-loop μ-loop) → c .built-at .result .length ≤ length (c .built-at .result .bytes)
+within c =
+    let a = c .before .before .before .before .before .args in
+    let l = c .before .before .loop in
+    built-within (entryAt (now (a .list)) (l .row)) (a .address + l .length) (c .built-at .ensures)
+
+array-share-prefix-bytes : tie.Need-array-share-prefix-bytes Inv-loop μ-loop
+array-share-prefix-bytes c = within (c .before .before .before)
+
+slice-aggregate-store-all : tie.Need-slice-aggregate-store-all Inv-loop μ-loop
+slice-aggregate-store-all c = sym (length-take-le _ _ (within (c .before .before .before .before)))
+
+store-all-requires : tie.Need-store-all-requires Inv-loop μ-loop
+store-all-requires c κs = search needs
 
 add-length : tie.Need-add-length Inv-loop μ-loop
 add-length c = omega arith
@@ -62,14 +73,14 @@ loop-less c = omega arith
 
 loop-again : tie.Need-loop-again Inv-loop μ-loop
 loop-again c =
-    let built = c .before .before .before .before .before .before in
+    let built = c .before .before .before .before .before .before .before in
     let a = built .before .before .before .before .before .args in
     let l = built .before .before .loop in
     let list = now (a .list) in
     let here = entryAt list (l .row) in
     let later = entriesFrom (l .left - 1) list (l .row + 21) in
     let b = built .built-at .result in
-    let e = c .before .before .before .store-built .ensures in
+    let e = c .before .before .store-all .ensures in
     let most = built-most here (a .address + l .length) (built .built-at .ensures) in (
       ap (λ (d : List ℕ). put d (l .length + b .length) (bytesFrom later (a .address + (l .length + b .length)))) e
           ∙ built-stored (l .out) (a .address) (l .length) here later b (built .built-at .ensures)
@@ -101,8 +112,10 @@ store-rows-spec =
     loop-holds
     add-built-at
     built-at-requires
-    store-built-requires
-    cast-length
+    cast-end
+    array-share-prefix-bytes
+    slice-aggregate-store-all
+    store-all-requires
     add-length
     add-row
     sub-left

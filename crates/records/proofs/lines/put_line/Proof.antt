@@ -4,8 +4,9 @@ use mathlib.Core.Path.{sym}
 use Prim.Native.Nat.{_+_, _^_, _<_}
 use native.Mathlib.Omega.{arith}
 use denote.Ref.{now}
+use Rattle.ground.proofs.Stores.{put-past}
 use Rattle.records.specs.Line.{line}
-use Rattle.records.proofs.Writing.{length-line, length-hexes, put-past, line-wrote}
+use Rattle.records.proofs.Writing.{length-line, length-hexes, line-wrote}
 use borrow.Author.Needs.{needs}
 use Rattle.records.proofs.lines.put_line.Statement.{statement}
 use Rattle.records.proofs.lines.put_line.Tie as tie
