@@ -1,5 +1,5 @@
-//! This library against the Rust, capstone, srec_cat and objcopy, in one run and on the same data. `benchmarks` prints tables; `benchmarks WORK N`
-//! does one piece of work N times, for a counter of instructions.
+//! This library against the Rust, capstone, srec_cat and objcopy, in one run and on the same data. `benchmarks` prints tables; `benchmarks alone` those
+//! in which no other program runs; `benchmarks WORK N` does one piece of work N times, for a counter of instructions.
 mod building;
 mod capstone;
 mod clock;
@@ -127,7 +127,6 @@ fn compare_texts(d: &Data) {
     ]);
     assert_eq!(bytes, d.image);
     table(&format!("Reading text, {size} bytes"), "byte", size, &times);
-    compare_programs(d);
 }
 
 /// A program's time on the whole text, less its time on one byte: what it costs beyond its start.
@@ -226,6 +225,9 @@ fn main() {
     compare_builds(&d);
     compare_decoding(&d);
     compare_texts(&d);
+    if words != ["alone"] {
+        compare_programs(&d);
+    }
     growth();
     passes();
 }
