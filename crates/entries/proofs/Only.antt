@@ -12,6 +12,8 @@ use Rattle.entries.proofs.flagged.Kinds as flagged-kinds
 use Rattle.entries.proofs.flagged.Reads as flagged
 use Rattle.entries.proofs.operand_of.Kinds as operand-of-kinds
 use Rattle.entries.proofs.operand_of.Reads as operand-of
+use Rattle.entries.proofs.kept_of.Kinds as kept-of-kinds
+use Rattle.entries.proofs.kept_of.Reads as kept-of
 use Rattle.entries.proofs.entry_of.Kinds as entry-of-kinds
 use Rattle.entries.proofs.entry_of.Reads as entry-of
 
@@ -29,6 +31,9 @@ flagged-single κs a x y s t p q = p ∙ sym q
 
 pub operand-of-single : Single 1 operand-of-kinds.ps operand-of-kinds.r operand-of.Post
 operand-of-single κs a x y s t p q = p ∙ sym q
+
+pub kept-of-single : Single 1 kept-of-kinds.ps kept-of-kinds.r kept-of.Post
+kept-of-single κs a x y s t p q = p ∙ sym q
 
 pub entry-of-single : Single 1 entry-of-kinds.ps entry-of-kinds.r entry-of.Post
 entry-of-single κs a x y s t p q = p ∙ sym q

@@ -1,4 +1,5 @@
--- An operand record in a row of numbers (docs/ROWS.md): 15 of the operand, then page dirty, values given, and the two values. What lies past a row's end is 0.
+-- Rows of numbers (docs/ROWS.md): an operand record is 15 of the operand, then page dirty, values given, and the two values; a kept instruction is the 15, then its
+-- form and its two marks. What lies past a row's end is 0.
 use Prim.Native.Nat.{ℕ, zero, suc, _+_}
 use mathlib.Core.Bool.{Bool, _&&_}
 use mathlib.Core.List.{List, [], _∷_}
@@ -9,6 +10,7 @@ use Rattle.values.specs.declared.Value.{Value}
 use Rattle.instruction.specs.declared.Operand.{Operand}
 use Rattle.instruction.specs.declared.Values.{Values}
 use Rattle.instruction.specs.declared.Record.{Record}
+use Rattle.instruction.specs.declared.Instruction.{Instruction}
 
 -- a number of 8 bits that is unknown as an operation, a mode, a register, a step and a width, and "over 8 registers" as a count
 abbrev pub nowhere : ℕ
@@ -63,6 +65,11 @@ operandOf row = record {
   step = byteIn row 4;
   widening = flagIn row 5;
 }
+
+-- ---- the kept instruction: its operand, its form, its trial mark and its widening
+unfoldable pub keptOf : List ℕ → Instruction
+keptOf row =
+    record { operand = operandOf row; form = byteIn row 15; trial = flagIn row 16; widened = flagIn row 17 }
 
 -- ---- the record
 -- a number and its width

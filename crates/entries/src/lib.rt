@@ -1,6 +1,7 @@
-// Operand records as rows of numbers, as lent tables hold them (docs/ROWS.md). Anything may be wrong in a row: it is read whole, and what is unknown
-// in it stays unknown.
+// Operand records and kept instructions as rows of numbers, as lent tables hold them (docs/ROWS.md). Anything may be wrong in a row: it is read whole,
+// and what is unknown in it stays unknown.
 use ground::tables::cell;
+use instruction::Instruction;
 use instruction::Operand;
 use instruction::Record;
 use instruction::Values;
@@ -10,7 +11,7 @@ ghost use Prim.Native.Nat.{_≤_};
 ghost use lib.Dec.{ltb};
 ghost use lib.ListN.{length};
 ghost use Rattle.ground.specs.Choice.{pick};
-ghost use Rattle.entries.specs.Entries.{nowhere, byteIn, isFlag, flagIn, flaggedIn, cellsOf, registersIn, operandOf, valuesIn, allFlagged, toldIn, entryOf};
+ghost use Rattle.entries.specs.Entries.{nowhere, byteIn, isFlag, flagIn, flaggedIn, cellsOf, registersIn, operandOf, keptOf, valuesIn, allFlagged, toldIn, entryOf};
 
 // No operation, mode, register, step or width has this number, and no list so many registers.
 const NOWHERE: u8 = 255;
@@ -128,6 +129,34 @@ pub fn operand_of(row: &[u16]) -> Operand
     }
     let whole = padded(row);
     operand_in(&whole)
+}
+
+// The kept instruction in a row that is long enough.
+fn kept_in(row: &[u16]) -> Instruction
+    requires { ⌜ 18 ≤ length (now row) ⌝ }
+    ensures { λ r. ⌜ r ≡ keptOf (now (row .entry)) ⌝ }
+{
+    let operand = operand_in(row);
+    let form = narrow(row[15]);
+    let trial = row[16] == 1;
+    let widened = row[17] == 1;
+    Instruction {
+        operand,
+        form,
+        trial,
+        widened,
+    }
+}
+
+// The kept instruction in a row: 18 numbers.
+pub fn kept_of(row: &[u16]) -> Instruction
+    ensures { λ r. ⌜ r ≡ keptOf (now (row .entry)) ⌝ }
+{
+    if 18 <= row.len() {
+        return kept_in(row);
+    }
+    let whole = padded(row);
+    kept_in(&whole)
 }
 
 fn values_in(row: &[u16]) -> Values

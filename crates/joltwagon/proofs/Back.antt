@@ -23,8 +23,8 @@ use Rattle.instruction.specs.Choosing.{chooseOf}
 use Rattle.instruction.specs.Building.{instructionOf, madeAs, makeOf, acceptedOf, buildOf, handed, freshFrom, freshOf}
 use Rattle.instruction.proofs.Ready.{lacking-none}
 use Rattle.instruction.proofs.Fits.{build-chosen}
-use Rattle.entries.specs.Entries.{byteIn, isFlag, flagIn, flaggedIn, registersIn, operandOf, allFlagged, toldIn, entryOf}
-use Rattle.joltwagon.specs.Kept.{isKept, keptOf, keptCells}
+use Rattle.entries.specs.Entries.{byteIn, isFlag, flagIn, flaggedIn, registersIn, operandOf, keptOf, allFlagged, toldIn, entryOf}
+use Rattle.joltwagon.specs.Kept.{isKept, keptCells}
 
 flag-back : (b : Bool) → eqb (flagCell b) 1 ≡ b
 unfolding flagCell pick

@@ -17,7 +17,6 @@ use Rattle.decoder.specs.declared.Counted.{Counted}
 use Rattle.decoder.specs.Meaning.{partsOf}
 use Rattle.expressions.specs.declared.Answer.{Answer}
 use Rattle.expressions.specs.declared.Evaluated.{Evaluated}
-use Rattle.instruction.specs.declared.Operand.{Operand}
 use Rattle.instruction.specs.declared.Instruction.{Instruction}
 use Rattle.instruction.specs.declared.Values.{Values}
 use Rattle.instruction.specs.declared.Made.{Made}
@@ -32,8 +31,7 @@ use Rattle.joltwagon.specs.Evaluating.{valueCells, evaluatedSaid, valueS
 use Rattle.joltwagon.specs.Texts.{writtenSaid, readSaid}
 use Rattle.joltwagon.specs.Lists.{laidSaid}
 use Rattle.joltwagon.specs.Settling.{hexSaid}
-use Rattle.entries.specs.Entries.{byteIn, flagIn, operandOf}
-use Rattle.joltwagon.specs.Kept.{keptOf, keptCells}
+use Rattle.joltwagon.specs.Kept.{keptCells}
 use Rattle.joltwagon.specs.Instructing.{madeSaid, frontCells, builtSaid, ofRow}
 
 pub decoded-said :
@@ -96,13 +94,6 @@ pub front-by-cell :
     b .length ∷ b₀ ∷ b₁ ∷ b₂ ∷ b₃ ∷ b₄ ∷ f ∷ [] ≡ frontCells b
 unfolding frontCells
 front-by-cell b s₀ s₁ s₂ s₃ s₄ t = cc
-
-pub kept-by-part :
-    (row : List ℕ) {o : Operand} {form : ℕ} {trial widened : Bool} →
-    o ≡ operandOf row → form ≡ byteIn row 15 → trial ≡ flagIn row 16 → widened ≡ flagIn row 17 →
-    record { operand = o; form = form; trial = trial; widened = widened } ≡ keptOf row
-unfolding keptOf
-kept-by-part row p q r s = cc
 
 pub kept-by-cell :
     (i : Instruction) {a b d r₀ r₁ r₂ r₃ r₄ r₅ r₆ r₇ e f : ℕ} →

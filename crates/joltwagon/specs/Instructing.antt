@@ -11,8 +11,8 @@ use Rattle.answers.specs.Sizes.{flagCell}
 use Rattle.instruction.specs.declared.Made.{Made}
 use Rattle.instruction.specs.declared.Built.{Built}
 use Rattle.instruction.specs.Building.{makeOf, buildOf, freshOf}
-use Rattle.entries.specs.Entries.{flagIn, entryOf}
-use Rattle.joltwagon.specs.Kept.{isKept, keptOf, keptCells, isPresent, presentOf}
+use Rattle.entries.specs.Entries.{flagIn, entryOf, keptOf}
+use Rattle.joltwagon.specs.Kept.{isKept, keptCells, isPresent, presentOf}
 
 -- ---- answers
 unfoldable pub madeSaid : Made → Said

@@ -7,18 +7,14 @@ use lib.ListN.{length, getD}
 use Rattle.answers.specs.Sizes.{flagCell}
 use Rattle.instruction.specs.declared.Values.{Values}
 use Rattle.instruction.specs.declared.Instruction.{Instruction}
-use Rattle.entries.specs.Entries.{byteIn, isFlag, flagIn, flaggedIn, operandOf, valueIn}
+use Rattle.entries.specs.Entries.{isFlag, flagIn, flaggedIn, valueIn}
 
--- ---- the kept instruction: its operand, its form, its trial mark and its widening
+-- ---- the kept instruction
 -- the row is long enough, and its flags are 0 or 1
 unfoldable pub isKept : List ℕ → Bool
 isKept row = leb 18 (length row) && (flaggedIn row && (isFlag row 16 && isFlag row 17))
 
-unfoldable pub keptOf : List ℕ → Instruction
-keptOf row =
-    record { operand = operandOf row; form = byteIn row 15; trial = flagIn row 16; widened = flagIn row 17 }
-
--- the same row, handed out
+-- the row that `keptOf` reads, handed out
 unfoldable pub keptCells : Instruction → List ℕ
 keptCells i =
     i .operand .operation

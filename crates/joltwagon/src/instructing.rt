@@ -2,7 +2,6 @@
 use crate::kept::is_kept;
 use crate::kept::is_present;
 use crate::kept::kept_cells;
-use crate::kept::kept_of;
 use crate::kept::present_of;
 use answers::flag;
 use answers::hand;
@@ -10,6 +9,7 @@ use answers::hand_both;
 use answers::wide;
 use entries::entry_of;
 use entries::flag_in;
+use entries::kept_of;
 use ground::refusals::UNKNOWN;
 use instruction::Built;
 use instruction::Instruction;

@@ -5,13 +5,12 @@ use entries::byte_in;
 use entries::flag_in;
 use entries::flagged;
 use entries::is_flag;
-use entries::operand_of;
 use ground::tables::cell;
 use instruction::Instruction;
 use instruction::Values;
 use values::Value;
 ghost use mathlib.Core.Path.{_≡_};
-ghost use Rattle.joltwagon.specs.Kept.{isKept, keptOf, keptCells, isPresent, presentOf};
+ghost use Rattle.joltwagon.specs.Kept.{isKept, keptCells, isPresent, presentOf};
 
 const KEPT: usize = 18;
 
@@ -20,25 +19,13 @@ const PRESENT: usize = 6;
 pub(crate) fn is_kept(row: &[u16]) -> bool
     ensures { λ r. ⌜ r ≡ isKept (now (row .entry)) ⌝ }
 {
-    (KEPT <= row.len()) & (flagged(row) & (is_flag(row, 16) & is_flag(row, 17)))
-}
-
-pub(crate) fn kept_of(row: &[u16]) -> Instruction
-    ensures { λ r. ⌜ r ≡ keptOf (now (row .entry)) ⌝ }
-{
-    let operand = operand_of(row);
-    let form = byte_in(row, 15);
-    let trial = flag_in(row, 16);
-    let widened = flag_in(row, 17);
-    Instruction {
-        operand,
-        form,
-        trial,
-        widened,
+    if row.len() < KEPT {
+        return false;
     }
+    flagged(row) & (is_flag(row, 16) & is_flag(row, 17))
 }
 
-// The row that `kept_of` reads.
+// The row that `entries::kept_of` reads.
 pub(crate) fn kept_cells(i: Instruction) -> [u16; 18]
     ensures { λ r. ⌜ r ≡ keptCells i ⌝ }
 {
@@ -69,7 +56,10 @@ pub(crate) fn kept_cells(i: Instruction) -> [u16; 18]
 pub(crate) fn is_present(row: &[u16]) -> bool
     ensures { λ r. ⌜ r ≡ isPresent (now (row .entry)) ⌝ }
 {
-    (PRESENT <= row.len()) & (is_flag(row, 0) & is_flag(row, 1))
+    if row.len() < PRESENT {
+        return false;
+    }
+    is_flag(row, 0) & is_flag(row, 1)
 }
 
 // The values of a build; the page is the row's first cell.
