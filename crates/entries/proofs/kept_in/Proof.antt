@@ -22,7 +22,7 @@ shared-slice-read-widened c = search needs
 
 returns : tie.Need-returns
 unfolding keptOf flagIn byteIn
-returns c = cc
+returns c = rw (c .before .before .before .before .operand-in .ensures, c .before .before .narrow .ensures)
 
 pub kept-in-spec : {M : Type 1} → statement M
 kept-in-spec =
