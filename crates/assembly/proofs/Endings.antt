@@ -15,7 +15,8 @@ use Rattle.ground.proofs.Choices.{by-test, pick-true, pick-false}
 use Rattle.ground.proofs.Tests.{neither-left, both-first, both-second}
 use Rattle.ground.proofs.Stores.{put-front}
 use Rattle.passes.specs.declared.Ended.{Ended}
-use Rattle.passes.specs.Labels.{rowsOf, laidOver}
+use Rattle.statements.specs.Listing.{rowsOf}
+use Rattle.passes.specs.Labels.{laidOver}
 use Rattle.passes.specs.Walks.{Source}
 use Rattle.passes.specs.Passes.{passedOf, tooMany, endedOf, workedTable}
 use Rattle.assembly.specs.declared.Plan.{Plan}

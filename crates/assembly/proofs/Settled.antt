@@ -15,7 +15,8 @@ use Rattle.statements.specs.Objects.{countIn}
 use Rattle.statements.proofs.Lengths.{values-length}
 use Rattle.statements.proofs.Sizes.{sizes}
 use Rattle.passes.specs.declared.Ended.{Ended}
-use Rattle.passes.specs.Labels.{rowsOf, begunTable}
+use Rattle.statements.specs.Listing.{rowsOf}
+use Rattle.passes.specs.Labels.{begunTable}
 use Rattle.passes.specs.Walks.{Source}
 use Rattle.passes.specs.Passes.{Outcome, passOf, answerOf, mostPasses, passedOf}
 use Rattle.passes.proofs.Fine.{fine-most}

@@ -12,7 +12,8 @@ use Rattle.ground.proofs.Choices.{by-pick}
 use Rattle.expressions.specs.Finding.{rowAt, labelRow}
 use Rattle.expressions.proofs.Every.{Cells}
 use Rattle.expressions.proofs.Fits.{Short}
-use Rattle.passes.specs.Labels.{rowsOf, bearerOf, begunState, begunRows, begunTable}
+use Rattle.statements.specs.Listing.{rowsOf}
+use Rattle.passes.specs.Labels.{bearerOf, begunState, begunRows, begunTable}
 use Rattle.passes.specs.Walks.{Source, Walk, hereOf, cellOf, marksOf, markedLabels, markOf, resizeOf, advanceOf, doneOf, stepOf, walkOf, startOf, walkTo}
 use Rattle.passes.specs.Passes.{Outcome, passOf, afterOf, settleOf, mostPasses, passedOf}
 

@@ -11,8 +11,8 @@ use lib.ListN.{getD, set, replicate}
 use borrow.Author.Tests.{eq-eqb, ne-eqb, ltb-false}
 use Rattle.ground.specs.Choice.{pick}
 use Rattle.ground.proofs.Choices.{pick-true, pick-false}
-use Rattle.statements.specs.Listing.{none, labelAt}
-use Rattle.passes.specs.Labels.{rowsOf, firstBearer, bearerOf, illOf}
+use Rattle.statements.specs.Listing.{none, rowsOf, labelAt}
+use Rattle.passes.specs.Labels.{firstBearer, bearerOf, illOf}
 use Rattle.passes.specs.Steps.{tableOf, bearersOf}
 
 table-at : (f : ℕ → ℕ) (n k j : ℕ) → j < n → getD (tableOf f n k) j 0 ≡ f (k + j)

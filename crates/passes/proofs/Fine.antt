@@ -17,7 +17,8 @@ use Rattle.statements.specs.declared.Effect.{Effect}
 use Rattle.statements.specs.Effects.{effectAt, countedOf}
 use Rattle.statements.proofs.Sizes.{counted-accepted}
 use Rattle.passes.specs.declared.walk.State.{State}
-use Rattle.passes.specs.Labels.{rowsOf, illOf}
+use Rattle.statements.specs.Listing.{rowsOf}
+use Rattle.passes.specs.Labels.{illOf}
 use Rattle.passes.specs.Walks.{Source, Walk, startOf, hereOf, touched, marksOf, cellOf, markedState, effectIn, sizedState, firstRefusal, judged, grown, moved, originState, advancedState, markOf, resizeOf, advanceOf, doneOf, stepOf, walkOf, walkTo}
 use Rattle.passes.specs.Passes.{passOf}
 use Rattle.passes.proofs.Still.{pass-next, settled-effects}

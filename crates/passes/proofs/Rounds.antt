@@ -14,10 +14,10 @@ use Rattle.ground.specs.Refusals.{notSettled, overLimit}
 use Rattle.ground.specs.Stores.{put}
 use Rattle.ground.proofs.Tests.{neither-left}
 use Rattle.expressions.specs.Answers as expressions
-use Rattle.statements.specs.Listing.{overfullAt}
+use Rattle.statements.specs.Listing.{rowsOf, overfullAt}
 use Rattle.passes.specs.declared.walk.State.{State}
 use Rattle.passes.specs.declared.Ended.{Ended}
-use Rattle.passes.specs.Labels.{rowsOf, begunTable, laidOver}
+use Rattle.passes.specs.Labels.{begunTable, laidOver}
 use Rattle.passes.specs.Walks.{Source}
 use Rattle.passes.specs.Passes.{passOf, ended, answerOf, outcome, afterOf, settleOf, mostPasses, passedOf, overfullIn, tooMany, endedOf, workedTable, workedSizes, settledOf, labelsAfter}
 use Rattle.passes.proofs.Tables.{begin-fills}

@@ -17,7 +17,7 @@ use Rattle.ground.proofs.Tests.{neither-left, neither-right}
 use Rattle.segments.specs.Segments.{addedTo}
 use Rattle.statements.specs.declared.Effect.{Effect}
 use Rattle.passes.specs.declared.walk.State.{State}
-use Rattle.passes.specs.Labels.{rowsOf}
+use Rattle.statements.specs.Listing.{rowsOf}
 use Rattle.passes.specs.Walks.{Source, Walk, walk, startOf, hereOf, touched, marksOf, cellOf, markedLabels, markedState, effectIn, sizedState, judged, originState, advancedState, markOf, resizeOf, advanceOf, doneOf, stepOf, walkOf, walkTo}
 use Rattle.passes.specs.Passes.{passOf}
 

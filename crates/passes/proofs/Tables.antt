@@ -13,7 +13,8 @@ use borrow.Author.Tests.{leb-true, leb-false}
 use Rattle.ground.specs.Stores.{put}
 use Rattle.ground.proofs.Stores.{put-front}
 use Rattle.passes.specs.declared.labels.Lent.{Lent}
-use Rattle.passes.specs.Labels.{rowsOf, begunState, begunRows, begunTable, laidOver}
+use Rattle.statements.specs.Listing.{rowsOf}
+use Rattle.passes.specs.Labels.{begunState, begunRows, begunTable, laidOver}
 use Rattle.passes.specs.Steps.{bearersOf, lentOf, stateOf, rowOf}
 use Rattle.passes.proofs.Bearers.{bearer-at}
 

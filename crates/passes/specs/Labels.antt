@@ -1,16 +1,11 @@
 -- Whose each label is, and the label table before the first pass and after the last (01, "Labels, expressions, segments", "Passes").
-use Prim.Native.Nat.{ℕ, zero, suc, _+_, _/_}
+use Prim.Native.Nat.{ℕ, zero, suc, _+_}
 use mathlib.Core.Bool.{Bool, _&&_, _||_, not}
 use mathlib.Core.List.{List, [], _∷_}
-use lib.ListN.{length}
 use lib.Dec.{ltb, eqb}
 use Rattle.ground.specs.Choice.{pick}
 use Rattle.expressions.specs.Finding.{labelRow}
-use Rattle.statements.specs.Listing.{none, labelAt}
-
--- how many statements a list has; numbers left over are no row
-abbrev pub rowsOf : List ℕ → ℕ
-rowsOf list = length list / 20
+use Rattle.statements.specs.Listing.{none, rowsOf, labelAt}
 
 -- of n statements from i on, the first that bears label k; the number after the last where none does
 unfoldable pub firstBearer : List ℕ → ℕ → ℕ → ℕ → ℕ

@@ -7,11 +7,11 @@ use lib.Dec.{ltb, eqb}
 use Rattle.ground.specs.Choice.{pick}
 use Rattle.ground.specs.Refusals.{notSettled, overLimit}
 use Rattle.expressions.specs.Answers as expressions
-use Rattle.statements.specs.Listing.{overfullAt}
+use Rattle.statements.specs.Listing.{rowsOf, overfullAt}
 use Rattle.passes.specs.declared.walk.State.{State}
 use Rattle.passes.specs.declared.Ended.{Ended}
 use Rattle.passes.specs.declared.Settled.{Settled}
-use Rattle.passes.specs.Labels.{rowsOf, begunTable, laidOver}
+use Rattle.passes.specs.Labels.{begunTable, laidOver}
 use Rattle.passes.specs.Walks.{Source, Walk, walkTo}
 
 -- one pass, from the label table and the sizes that the one before left

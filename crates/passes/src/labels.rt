@@ -3,11 +3,13 @@ use ground::buffers::store_cell;
 use ground::tables::cell;
 use statements::listing::NONE;
 use statements::listing::label_at;
+use statements::listing::rows_of;
 ghost use mathlib.Core.Path.{_≡_};
 ghost use Prim.Native.Nat.{_*_, _<_, _≤_, min};
 ghost use lib.ListN.{replicate};
 ghost use Rattle.ground.specs.Stores.{put};
-ghost use Rattle.passes.specs.Labels.{rowsOf, illOf, begunTable, laidOver};
+ghost use Rattle.statements.specs.Listing.{rowsOf};
+ghost use Rattle.passes.specs.Labels.{illOf, begunTable, laidOver};
 ghost use Rattle.passes.specs.Steps.{bearersOf, lentOf, stateOf, rowOf};
 
 const LAST_LABEL: u16 = 511;
@@ -29,7 +31,7 @@ pub(crate) fn find_bearers(list: &[u16], firsts: &mut [u16])
     requires { ⌜ now firsts ≡ replicate 512 (rowsOf (now list)) ⌝ }
     ensures { λ _. ⌜ now (firsts .exit) ≡ bearersOf (now (list .entry)) ⌝ }
 {
-    let mut i = list.len() / 20;
+    let mut i = rows_of(list);
     while 0 < i {
         i -= 1;
         store_cell(firsts, label_at(list, i) as usize, i as u16);
@@ -52,7 +54,7 @@ pub(crate) fn begin(list: &[u16], firsts: &[u16], labels: &[u16], table: &mut [u
     requires { ⌜ now firsts ≡ bearersOf (now list) ⌝ }
     ensures { λ _. ⌜ now (table .exit) ≡ put (now (table .entry)) 0 (begunTable (now (list .entry)) (now (labels .entry))) ⌝ }
 {
-    let rows = list.len() / 20;
+    let rows = rows_of(list);
     let mut k: usize = 0;
     while k < ALL_LABELS {
         let borne = (cell(firsts, k) as usize) < rows;

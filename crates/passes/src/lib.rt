@@ -9,12 +9,13 @@ use labels::begin;
 use labels::find_bearers;
 use labels::store_labels;
 use statements::listing::overfull;
+use statements::listing::rows_of;
 use walk::State;
 use walk::walk_all;
 ghost use mathlib.Core.Path.{_≡_};
 ghost use Prim.Native.Nat.{_≤_};
 ghost use lib.ListN.{length};
-ghost use Rattle.passes.specs.Labels.{rowsOf};
+ghost use Rattle.statements.specs.Listing.{rowsOf};
 ghost use Rattle.passes.specs.Walks.{source};
 ghost use Rattle.passes.specs.Passes.{passOf, ended, answerOf, mostPasses, settleOf, overfullIn, tooMany, endedOf, workedTable, workedSizes, settledOf, labelsAfter};
 ghost use Rattle.passes.specs.Steps.{bearersOf};
@@ -75,7 +76,7 @@ pub fn settle_in(
     if too_many(list, nodes) {
         return refused(OVER_LIMIT, 0);
     }
-    let none = (list.len() / 20) as u16;
+    let none = rows_of(list) as u16;
     let mut firsts = [none; 512];
     find_bearers(list, &mut firsts);
     begin(list, &firsts, labels, table);
@@ -87,7 +88,7 @@ pub fn settle_in(
 pub fn too_many(list: &[u16], nodes: &[u16]) -> bool
     ensures { λ r. ⌜ r ≡ tooMany (now (list .entry)) (now (nodes .entry)) ⌝ }
 {
-    let rows = list.len() / 20;
+    let rows = rows_of(list);
     (MOST_STATEMENTS < rows) | (too_many_nodes(nodes) | any_overfull(list, rows))
 }
 

@@ -7,13 +7,15 @@ use statements::effects::counted;
 use statements::effects::effect;
 use statements::listing::NONE;
 use statements::listing::label_at;
+use statements::listing::rows_of;
 ghost use mathlib.Core.Path.{_≡_};
 ghost use mathlib.Core.Bool.{not};
 ghost use Prim.Native.Nat.{_+_, _*_, _≤_, _<_};
 ghost use lib.ListN.{length, getD, set};
 ghost use lib.Dec.{eqb};
 ghost use Rattle.segments.specs.Segments.{tableAfter};
-ghost use Rattle.passes.specs.Labels.{rowsOf, illOf};
+ghost use Rattle.statements.specs.Listing.{rowsOf};
+ghost use Rattle.passes.specs.Labels.{illOf};
 ghost use Rattle.passes.specs.Walks.{source, walk, begun, hereOf, touched, markedLabels, markedState, effectIn, sizedState};
 ghost use Rattle.passes.specs.Walks.{firstRefusal, judged, grown, moved, originState, advancedState, advancedStarts, stepOf, walkOf};
 ghost use Rattle.passes.specs.Steps.{bearersOf};
@@ -215,7 +217,7 @@ pub(crate) fn walk_all(
         changed: false,
     };
     let mut i: usize = 0;
-    let mut left = list.len() / 20;
+    let mut left = rows_of(list);
     while 0 < left {
         s = step(list, items, nodes, firsts, labels, sizes, starts, i, s);
         i += 1;

@@ -30,11 +30,10 @@ use Rattle.laying.proofs.Decodes.{laid-decodes, laid-whole}
 use Rattle.statements.specs.declared.Statement.{Statement}
 use Rattle.statements.specs.declared.Statement.the-variants.{Label, Instruction, Rmb, Fcb, Fdb, Fcc, Org, Unknown}
 use Rattle.statements.specs.declared.Effect.{Effect}
-use Rattle.statements.specs.Listing.{none, statementAt, entryAt}
+use Rattle.statements.specs.Listing.{none, rowsOf, statementAt, entryAt}
 use Rattle.statements.specs.Effects.{instructionEffect, effectOf, effectAt}
 use Rattle.statements.proofs.Told.{instruction-fresh}
 use Rattle.passes.specs.declared.Ended.{Ended}
-use Rattle.passes.specs.Labels.{rowsOf}
 use Rattle.passes.specs.Walks.{Source, walkTo, walkOf}
 use Rattle.passes.specs.Passes.{Outcome, passOf, passedOf, answerOf, tooMany, endedOf}
 use Rattle.passes.proofs.Fine.{fine-all}

@@ -6,10 +6,9 @@ use Rattle.instruction.specs.declared.Record.{Record}
 use Rattle.statements.specs.declared.Statement.{Statement}
 use Rattle.statements.specs.declared.Statement.the-variants.{Label, Instruction, Rmb, Fcb, Fdb, Fcc, Org, Unknown}
 use Rattle.statements.specs.declared.Entry.{Entry}
-use Rattle.statements.specs.Listing.{statementAt, entryAt}
+use Rattle.statements.specs.Listing.{rowsOf, statementAt, entryAt}
 use Rattle.statements.specs.Asking.{askedOf}
 use Rattle.statements.specs.Effects.{recordOf}
-use Rattle.passes.specs.Labels.{rowsOf}
 use Rattle.passes.specs.Walks.{Source}
 use Rattle.passes.specs.Passes.{Outcome, passedOf}
 use Rattle.assembly.specs.Objects.{addressAt, dirtyAt, gather}

@@ -15,8 +15,7 @@ use Rattle.decoder.proofs.Runs.{lengthsOf}
 use Rattle.laying.specs.Laying.{Bytes, layFrom}
 use Rattle.laying.specs.Exactly.{bytesFrom}
 use Rattle.laying.specs.Meant.{meaningsFrom}
-use Rattle.statements.specs.Listing.{statementAt}
-use Rattle.passes.specs.Labels.{rowsOf}
+use Rattle.statements.specs.Listing.{rowsOf, statementAt}
 use Rattle.passes.specs.Walks.{Source}
 use Rattle.passes.specs.Passes.{endedOf}
 use Rattle.assembly.specs.Text.{settledText}

@@ -3,6 +3,8 @@
 use mathlib.Core.Path.{sym, _∙_}
 use denote.Ref.{now}
 use Rattle.ground.proofs.Single.{Single, SingleLeaving}
+use Rattle.statements.proofs.listing.rows_of.Kinds as rows-of-kinds
+use Rattle.statements.proofs.listing.rows_of.Reads as rows-of
 use Rattle.statements.proofs.listing.statement_at.Kinds as statement-at-kinds
 use Rattle.statements.proofs.listing.statement_at.Reads as statement-at
 use Rattle.statements.proofs.listing.label_at.Kinds as label-at-kinds
@@ -21,6 +23,9 @@ use Rattle.statements.proofs.objects.store_values.Kinds as store-values
 use Rattle.statements.proofs.objects.store_values.Reads as store-values
 use Rattle.statements.proofs.lone.build.Kinds as build-kinds
 use Rattle.statements.proofs.lone.build.Reads as build
+
+pub rows-of-single : Single 1 rows-of-kinds.ps rows-of-kinds.r rows-of.Post
+rows-of-single κs a x y s t p q = p ∙ sym q
 
 pub statement-at-single : Single 1 statement-at-kinds.ps statement-at-kinds.r statement-at.Post
 statement-at-single κs a x y s t p q = p ∙ sym q

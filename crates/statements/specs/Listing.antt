@@ -14,9 +14,13 @@ use Rattle.statements.specs.declared.Entry.{Entry}
 abbrev pub none : ℕ
 none = 65535
 
+-- how many statements a list has; numbers left over are no row
+abbrev pub rowsOf : List ℕ → ℕ
+rowsOf list = length list / 20
+
 -- number j of row i. A row that is not there has 65535 in every place: its kind is unknown, and it bears no label.
 unfoldable pub numberAt : List ℕ → ℕ → ℕ → ℕ
-numberAt list i j = pick (ltb i (length list / 20)) (getD list (i * 20 + j) 0) none
+numberAt list i j = pick (ltb i (rowsOf list)) (getD list (i * 20 + j) 0) none
 
 -- an item; past the end of the table stands a hole
 unfoldable pub itemAt : List ℕ → ℕ → ℕ
@@ -42,7 +46,7 @@ labelAt list i = numberAt list i 1
 
 -- the operand's own numbers, behind the statement's first five
 unfoldable pub operandRow : List ℕ → ℕ → List ℕ
-operandRow list i = pick (ltb i (length list / 20)) (drop (i * 20 + 5) list) []
+operandRow list i = pick (ltb i (rowsOf list)) (drop (i * 20 + 5) list) []
 
 -- the operand as the parser saw it, and whether each of its flags is 0 or 1
 unfoldable pub entryIn : List ℕ → Entry

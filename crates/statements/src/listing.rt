@@ -5,7 +5,7 @@ use entries::flagged;
 use entries::operand_of;
 use ground::tables::cell;
 ghost use mathlib.Core.Path.{_≡_};
-ghost use Rattle.statements.specs.Listing.{numberAt, itemAt, statementOf, statementAt, labelAt, entryIn, entryAt, itemsOf, overfullAt, objectOf};
+ghost use Rattle.statements.specs.Listing.{rowsOf, numberAt, itemAt, statementOf, statementAt, labelAt, entryIn, entryAt, itemsOf, overfullAt, objectOf};
 
 // No label, no operand, a hole among values.
 pub const NONE: u16 = 65535;
@@ -28,11 +28,18 @@ const COUNT: u8 = 4;
 // The operand of an instruction stands from here to the row's end.
 const OPERAND: usize = 5;
 
+// How many statements a list has. Numbers left over are no row.
+pub fn rows_of(list: &[u16]) -> usize
+    ensures { λ r. ⌜ r ≡ rowsOf (now (list .entry)) ⌝ }
+{
+    list.len() / WIDTH
+}
+
 // A number of a row. A row that is not there has 65535 in every place.
 fn number(list: &[u16], i: usize, place: u8) -> u16
     ensures { λ r. ⌜ r ≡ numberAt (now (list .entry)) i place ⌝ }
 {
-    if i < list.len() / WIDTH {
+    if i < rows_of(list) {
         return cell(list, i * WIDTH + place as usize);
     }
     NONE
@@ -96,7 +103,7 @@ fn entry(row: &[u16]) -> Entry
 pub fn operand_at(list: &[u16], i: usize) -> Entry
     ensures { λ r. ⌜ r ≡ entryAt (now (list .entry)) i ⌝ }
 {
-    if i < list.len() / WIDTH {
+    if i < rows_of(list) {
         return entry(&list[i * WIDTH + OPERAND..]);
     }
     entry(&list[..0])

@@ -1,7 +1,8 @@
 -- `passes::settle_in` meets its contract: 17 at once, or passes over the tables as they begin.
 -- Assumes nothing.
-use mathlib.Core.Path.{_∙_, sym, refl}
+use mathlib.Core.Path.{_∙_, ap, sym}
 use native.Mathlib.Omega.{arith}
+use lib.ListN.{replicate}
 use Rattle.passes.proofs.Rounds.{few, ends-at-once, ends-settled}
 use borrow.Author.Needs.{needs}
 use Rattle.passes.proofs.settle_in.Statement.{statement}
@@ -17,15 +18,18 @@ returns : tie.Need-returns
 returns c =
     ends-at-once _ _ _ _ _ (sym (c .before .before .too-many .ensures) ∙ c .before .if1 .taken) (c .refused .ensures)
 
+rows-of-requires : tie.Need-rows-of-requires
+rows-of-requires c κs = search needs
+
 cast-none : tie.Need-cast-none
-cast-none c = omega (arith, few _ _ (sym (c .before .too-many .ensures) ∙ c .if1 .left))
+cast-none c = omega (arith, few _ _ (sym (c .before .before .too-many .ensures) ∙ c .before .if1 .left))
 
 slice-aggregate-find-bearers : tie.Need-slice-aggregate-find-bearers
 slice-aggregate-find-bearers c = search needs
 
 find-bearers-requires : tie.Need-find-bearers-requires
 find-bearers-requires c κs =
-    (few _ _ (sym (c .before .before .too-many .ensures) ∙ c .before .if1 .left), refl)
+    (few _ _ (sym (c .before .before .before .too-many .ensures) ∙ c .before .before .if1 .left), ap (replicate 512) (c .before .rows-of .ensures))
 
 slice-aggregate-begin : tie.Need-slice-aggregate-begin
 slice-aggregate-begin c = search needs
@@ -39,14 +43,14 @@ slice-aggregate-passes c = search needs
 passes-requires : tie.Need-passes-requires
 passes-requires c κs =
     let found = c .before .before .before .before .before .before .before .before in
-    let tested = found .before .before in
+    let tested = found .before .before .before in
     let h = few _ _ (sym (tested .before .too-many .ensures) ∙ tested .if1 .left) in
     (h, (h, found .find-bearers .ensures))
 
 returns-2 : tie.Need-returns-2
 returns-2 c =
     let began = c .before .before .before .before .before in
-    let tested = began .before .before .before .before .before .before in
+    let tested = began .before .before .before .before .before .before .before in
     ends-settled _ _ _ _ _ _ _ _ (sym (tested .before .too-many .ensures) ∙ tested .if1 .left) (search needs) (began .begin .ensures) (c .passes .ensures .0) (c .passes .ensures .1 .0) (c .passes .ensures .1 .1)
 
 pub settle-in-spec : {M : Type 1} → statement M
@@ -56,6 +60,7 @@ settle-in-spec =
     too-many-requires
     refused-requires
     returns
+    rows-of-requires
     cast-none
     slice-aggregate-find-bearers
     find-bearers-requires

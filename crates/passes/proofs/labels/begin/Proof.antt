@@ -1,7 +1,8 @@
 -- `passes::labels::begin` meets its contract: the rows stored, and those that are left, make the whole table.
 -- Assumes nothing.
-use mathlib.Core.Path.{_≡_, _∙_, sym, refl}
+use mathlib.Core.Path.{_≡_, _∙_, ap, sym}
 use Prim.Native.Nat.{_≤_, _-_, _*_}
+use lib.Dec.{ltb}
 use lib.ListN.{length}
 use Rattle.ground.specs.Stores.{put}
 use Rattle.passes.specs.Labels.{begunRows, begunTable}
@@ -17,6 +18,9 @@ Inv-loop list firsts labels table₀ rows k₀ table k =
 
 abbrev μ-loop : tie.MeasureT-loop
 μ-loop list firsts labels table₀ rows k₀ table k = 512 - k
+
+rows-of-requires : tie.Need-rows-of-requires Inv-loop μ-loop
+rows-of-requires c κs = search needs
 
 loop-holds : tie.Need-loop-holds Inv-loop μ-loop
 unfolding begunTable
@@ -44,7 +48,7 @@ loop-again c =
     let inv = turn .before .loop .inv in (
       search needs,
       search needs,
-      begin-more _ _ _ _ _ _ _ _ (turn .loop-test .taken) (turn .before .before .before .before .before .before .pre) (stored .before .before .cell .ensures) refl (stored .begin-row .ensures) ∙ inv .2,
+      begin-more _ _ _ _ _ _ _ _ (turn .loop-test .taken) (turn .before .before .before .before .before .before .before .pre) (stored .before .before .cell .ensures) (ap (ltb _) (turn .before .before .rows-of .ensures)) (stored .begin-row .ensures) ∙ inv .2,
     )
 
 same-length : tie.Need-same-length Inv-loop μ-loop
@@ -59,6 +63,7 @@ begin-spec =
     (tie.spec
     Inv-loop
     μ-loop
+    rows-of-requires
     loop-holds
     cell-requires
     cast-borne

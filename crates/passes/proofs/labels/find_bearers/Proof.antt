@@ -3,7 +3,7 @@
 use mathlib.Core.Path.{_≡_, _∙_}
 use Prim.Native.Nat.{_≤_}
 use lib.ListN.{length}
-use Rattle.passes.specs.Labels.{rowsOf}
+use Rattle.statements.specs.Listing.{rowsOf}
 use Rattle.passes.proofs.Bearers.{found, found-first, found-more, found-all}
 use borrow.Author.Needs.{needs}
 use Rattle.passes.proofs.labels.find_bearers.Statement.{statement}
@@ -15,8 +15,11 @@ Inv-loop list firsts₀ i₀ firsts i = (i ≤ rowsOf list) × (length firsts �
 abbrev μ-loop : tie.MeasureT-loop
 μ-loop list firsts₀ i₀ firsts i = i
 
+rows-of-requires : tie.Need-rows-of-requires Inv-loop μ-loop
+rows-of-requires c κs = search needs
+
 loop-holds : tie.Need-loop-holds Inv-loop μ-loop
-loop-holds c = (search needs, search needs, c .before .before .pre .1 ∙ found-first _)
+loop-holds c = (search needs, search needs, rw (c .rows-of .ensures) (c .before .before .before .pre .1 ∙ found-first _))
 
 sub-i : tie.Need-sub-i Inv-loop μ-loop
 sub-i c = search needs
@@ -58,6 +61,7 @@ find-bearers-spec =
     (tie.spec
     Inv-loop
     μ-loop
+    rows-of-requires
     loop-holds
     sub-i
     label-at-requires

@@ -4,7 +4,7 @@ use native.Mathlib.Omega.{arith}
 use mathlib.Core.Path.{_≡_, _∙_, sym}
 use Prim.Native.Nat.{_+_, _≤_}
 use lib.ListN.{length}
-use Rattle.passes.specs.Labels.{rowsOf}
+use Rattle.statements.specs.Listing.{rowsOf}
 use Rattle.passes.specs.Walks.{source, walk, begun, walkOf}
 use Rattle.passes.proofs.Turns.{walk-more, walk-end}
 use borrow.Author.Needs.{needs}
@@ -21,12 +21,15 @@ Inv-loop list items nodes firsts labels₀ sizes₀ starts₀ s₀ i₀ left₀ 
 abbrev μ-loop : tie.MeasureT-loop
 μ-loop list items nodes firsts labels₀ sizes₀ starts₀ s₀ i₀ left₀ labels sizes starts s i left = left
 
+rows-of-requires : tie.Need-rows-of-requires Inv-loop μ-loop
+rows-of-requires c κs = search needs
+
 loop-holds : tie.Need-loop-holds Inv-loop μ-loop
-loop-holds c = search needs
+loop-holds c = rw (c .rows-of .ensures) (search needs)
 
 step-requires : tie.Need-step-requires Inv-loop μ-loop
 step-requires c κs =
-    let start = c .before .before .before .before .before .before .before .before .before .before .before .before in
+    let start = c .before .before .before .before .before .before .before .before .before .before .before .before .before in
     let few = start .pre .0 in
     let sized = start .pre .1 .0 in
     let inv = c .before .before .before .before .loop .inv in
@@ -72,6 +75,7 @@ walk-all-spec =
     (tie.spec
     Inv-loop
     μ-loop
+    rows-of-requires
     loop-holds
     step-requires
     add-i

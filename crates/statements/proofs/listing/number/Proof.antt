@@ -7,6 +7,9 @@ use borrow.Author.Needs.{needs}
 use Rattle.statements.proofs.listing.number.Statement.{statement}
 use Rattle.statements.proofs.listing.number.Tie as tie
 
+rows-of-requires : tie.Need-rows-of-requires
+rows-of-requires c κs = search needs
+
 mul-cell : tie.Need-mul-cell
 mul-cell c = search needs
 
@@ -18,11 +21,11 @@ cell-requires c κs = search needs
 
 returns : tie.Need-returns
 unfolding numberAt pick
-returns c = rw (lt-ltb _ _ (c .before .if1 .taken)) (c .cell .ensures)
+returns c = rw (← c .before .before .rows-of .ensures, lt-ltb _ _ (c .before .if1 .taken)) (c .cell .ensures)
 
 returns-2 : tie.Need-returns-2
 unfolding numberAt pick
-returns-2 c = rw (le-ltb _ _ (c .if1 .left))
+returns-2 c = rw (← c .before .rows-of .ensures, le-ltb _ _ (c .if1 .left))
 
 pub number-spec : {M : Type 1} → statement M
-number-spec = tie.close (tie.spec mul-cell add-cell cell-requires returns returns-2)
+number-spec = tie.close (tie.spec rows-of-requires mul-cell add-cell cell-requires returns returns-2)
