@@ -1,29 +1,19 @@
 // The lines of a listing, written to a lent buffer. What would lie past its end is not stored, so that a listing can be measured first.
 use ground::buffers::store;
-ghost use mathlib.Core.Path.{_≡_};
+use records::hex::store_digits;
 ghost use mathlib.Core.List.{[], _∷_};
 ghost use Prim.Native.Nat.{_+_, _*_, _^_, _<_};
 ghost use lib.ListN.{length};
 ghost use Rattle.ground.specs.Stores.{Wrote};
-ghost use Rattle.records.specs.Hex.{hexOf, hexes};
+ghost use Rattle.records.specs.Hex.{hexes};
 ghost use Rattle.listing.specs.Lines.{spaced, lineOf, placeOf, decimal, lastLine};
-
-// The upper-case digit of a number below 16.
-fn digit(n: u8) -> u8
-    requires { ⌜ n < 16 ⌝ }
-    ensures { λ r. ⌜ r ≡ hexOf n ⌝ }
-{
-    let decimal = n < 10;
-    if decimal { 48 + n } else { 55 + n }
-}
 
 // The two digits of a byte.
 fn put_byte(out: &mut [u8], at: usize, b: u8) -> usize
     requires { ⌜ at + 2 < 2 ^ 64 ⌝ }
     ensures { λ r. ⌜ Wrote (now (out .entry)) at (hexes (b ∷ [])) r (now (out .exit)) ⌝ }
 {
-    store(out, at, digit(b / 16));
-    store(out, at + 1, digit(b % 16));
+    store_digits(out, at, b);
     at + 2
 }
 

@@ -1,4 +1,5 @@
 // Objects in lent tables, written as Intel's hexadecimal text.
+pub mod hex;
 mod lines;
 mod objects;
 mod walk;

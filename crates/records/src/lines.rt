@@ -1,24 +1,13 @@
 // A line of Intel's text, written in one pass: digits and sum of its bytes go together.
+use crate::hex::store_digits;
 use ground::buffers::store;
-ghost use mathlib.Core.Path.{_≡_};
 ghost use mathlib.Core.List.{[], _∷_};
 ghost use Prim.Native.Nat.{_+_, _*_, _^_, _<_};
 ghost use lib.ListN.{length};
 ghost use Rattle.ground.specs.Stores.{Wrote};
 ghost use Rattle.ground.specs.Words.{high, low};
-ghost use Rattle.records.specs.Hex.{hexOf};
 ghost use Rattle.records.specs.Line.{checkOf, line};
 ghost use Rattle.records.specs.Penned.{Penned};
-
-const DIGITS: [u8; 16] = *b"0123456789ABCDEF";
-
-// The digit of a number below 16.
-fn digit(n: usize) -> u8
-    requires { ⌜ n < 16 ⌝ }
-    ensures { λ r. ⌜ r ≡ hexOf n ⌝ }
-{
-    DIGITS[n]
-}
 
 // Where the text goes on, and the sum of the line's bytes so far, modulo 256.
 pub(crate) struct Pen {
@@ -32,13 +21,10 @@ impl Pen {
         requires { ⌜ self .at + 2 < 2 ^ 64 ⌝ }
         ensures { λ r. ⌜ Penned (now (out .entry)) self (b ∷ []) r (now (out .exit)) ⌝ }
     {
-        let at = self.at;
-        let wide = b as usize;
-        store(out, at, digit(wide / 16));
-        store(out, at + 1, digit(wide % 16));
+        store_digits(out, self.at, b);
         Pen {
-            at: at + 2,
-            sum: ((self.sum as usize + wide) % 256) as u8,
+            at: self.at + 2,
+            sum: ((self.sum as usize + b as usize) % 256) as u8,
         }
     }
 

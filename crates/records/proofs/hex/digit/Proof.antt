@@ -1,4 +1,4 @@
--- `records::lines::digit` meets its contract: a test that antt computes at each of the sixteen places.
+-- `records::hex::digit` meets its contract: a test that antt computes at each of the sixteen places.
 -- Assumes nothing.
 use mathlib.Core.Bool.{Bool}
 use mathlib.Core.List.{List, [], _∷_}
@@ -9,8 +9,8 @@ use borrow.Author.Needs.{needs}
 use Rattle.ground.specs.Choice.{pick}
 use Rattle.ground.proofs.Ranges.{below}
 use Rattle.records.specs.Hex.{hexOf}
-use Rattle.records.proofs.lines.digit.Statement.{statement}
-use Rattle.records.proofs.lines.digit.Tie as tie
+use Rattle.records.proofs.hex.digit.Statement.{statement}
+use Rattle.records.proofs.hex.digit.Tie as tie
 
 abbrev digits : List ℕ
 digits = 48 ∷ 49 ∷ 50 ∷ 51 ∷ 52 ∷ 53 ∷ 54 ∷ 55 ∷ 56 ∷ 57 ∷ 65 ∷ 66 ∷ 67 ∷ 68 ∷ 69 ∷ 70 ∷ []

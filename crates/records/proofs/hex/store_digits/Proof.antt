@@ -1,10 +1,14 @@
--- `records::lines::Pen::byte` meets its contract: two digits are stored, one after the other.
+-- `records::hex::store_digits` meets its contract: two digits are stored, one after the other, or none past the end.
 -- Assumes nothing.
-use mathlib.Core.Path.{refl}
+use mathlib.Core.Path.{sym}
+use mathlib.Core.List.{[], _∷_}
 use native.Mathlib.Omega.{arith}
+use denote.Ref.{now}
+use Rattle.ground.proofs.Stores.{put-past}
+use Rattle.records.specs.Hex.{hexes}
 use borrow.Author.Needs.{needs}
-use Rattle.records.proofs.lines.Pen.byte.Statement.{statement}
-use Rattle.records.proofs.lines.Pen.byte.Tie as tie
+use Rattle.records.proofs.hex.store_digits.Statement.{statement}
+use Rattle.records.proofs.hex.store_digits.Tie as tie
 
 digit-requires : tie.Need-digit-requires
 digit-requires c κs = search needs
@@ -21,26 +25,17 @@ digit-requires-2 c κs = search needs
 store-requires-2 : tie.Need-store-requires-2
 store-requires-2 c κs = search needs
 
-add-t10 : tie.Need-add-t10
-add-t10 c = search needs
-
-cast-t13 : tie.Need-cast-t13
-cast-t13 c = search needs
-
-add-t14 : tie.Need-add-t14
-add-t14 c = search needs
-
-cast-t9 : tie.Need-cast-t9
-cast-t9 c = search needs
-
 same-length : tie.Need-same-length
 same-length c = search needs
 
 returns : tie.Need-returns
-returns c = record { digits = record { next = refl; buffer = cc }; total = omega arith }
+returns c = cc
 
-pub byte-spec : {M : Type 1} → statement M
-byte-spec =
+returns-2 : tie.Need-returns-2
+returns-2 c = let a = c .before .before .args in sym (put-past (now (a .out)) (a .at) (hexes (a .b ∷ [])) (omega arith))
+
+pub store-digits-spec : {M : Type 1} → statement M
+store-digits-spec =
     tie.close
     (tie.spec
     digit-requires
@@ -48,9 +43,6 @@ byte-spec =
     add-store
     digit-requires-2
     store-requires-2
-    add-t10
-    cast-t13
-    add-t14
-    cast-t9
     same-length
-    returns)
+    returns
+    returns-2)
