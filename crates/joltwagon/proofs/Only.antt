@@ -1,10 +1,10 @@
 -- Each contract leaves one return, and one content of what is lent.
 -- Assumes nothing.
-use mathlib.Core.Path.{_≡_, refl, sym, _∙_}
+use mathlib.Core.Path.{refl, sym, _∙_}
 use mathlib.Core.List.{List}
 use Prim.Native.Nat.{ℕ}
 use denote.Ref.{now}
-use Rattle.ground.proofs.Single.{SingleLeaving}
+use Rattle.ground.proofs.Single.{SingleLeaving, same-both}
 use Rattle.joltwagon.proofs.instructing.jw_make.Kinds as jw-make-kinds
 use Rattle.joltwagon.proofs.instructing.jw_make.Reads as jw-make
 use Rattle.joltwagon.proofs.instructing.jw_assemble.Kinds as jw-assemble-kinds
@@ -73,12 +73,6 @@ jw-add-segment-single κs a x y s t p q = (p .0 ∙ sym (q .0), p .1 ∙ sym (q 
 pub jw-segment-of-single : SingleLeaving 2 jw-segment-of-kinds.ps jw-segment-of-kinds.r (λ κs s. now (s .1 .1 .0)) jw-segment-of.Post
 jw-segment-of-single κs a x y s t p q = (p .0 ∙ sym (q .0), p .1 ∙ sym (q .1))
 
-same-both : {a b c d : List ℕ} → a ≡ b → c ≡ d → _≡_ {A = List ℕ × List ℕ} (a, c) (b, d)
-same-both p q = cc
-
-same-three : {a b c d e f : List ℕ} → a ≡ b → c ≡ d → e ≡ f → _≡_ {A = List ℕ × (List ℕ × List ℕ)} (a, (c, e)) (b, (d, f))
-same-three p q r = cc
-
 pub jw-lay-single : SingleLeaving {B = List ℕ × List ℕ} 3 jw-lay-kinds.ps jw-lay-kinds.r (λ κs s. (now (s .1 .1 .0), now (s .1 .1 .1 .0))) jw-lay.Post
 jw-lay-single κs a x y s t p q = (p .refusal ∙ sym (q .refusal), same-both (p .bytes ∙ sym (q .bytes)) (p .cells ∙ sym (q .cells)))
 
@@ -93,12 +87,7 @@ jw-write-text-single κs a x y s t p q = (p .refusal ∙ sym (q .refusal), same-
 
 pub jw-read-text-single : SingleLeaving {B = List ℕ × (List ℕ × List ℕ)} 4 jw-read-text-kinds.ps jw-read-text-kinds.r (λ κs s. (now (s .1 .0), (now (s .1 .1 .0), now (s .1 .1 .1 .0)))) jw-read-text.Post
 jw-read-text-single κs a x y s t p q =
-    (p .refusal ∙ sym (q .refusal), same-three (p .bytes ∙ sym (q .bytes)) (p .rows ∙ sym (q .rows)) (p .cells ∙ sym (q .cells)))
-
-same-five :
-    {a b c d e f g h i j : List ℕ} → a ≡ b → c ≡ d → e ≡ f → g ≡ h → i ≡ j →
-    _≡_ {A = List ℕ × (List ℕ × (List ℕ × (List ℕ × List ℕ)))} (a, (c, (e, (g, i)))) (b, (d, (f, (h, j))))
-same-five p q r s t = cc
+    (p .refusal ∙ sym (q .refusal), same-both (p .bytes ∙ sym (q .bytes)) (same-both (p .rows ∙ sym (q .rows)) (p .cells ∙ sym (q .cells))))
 
 pub jw-hex-single :
     SingleLeaving {B = List ℕ × (List ℕ × (List ℕ × (List ℕ × List ℕ)))} 8 jw-hex-kinds.ps jw-hex-kinds.r
@@ -106,5 +95,9 @@ pub jw-hex-single :
     jw-hex.Post
 jw-hex-single κs a x y s t p q = (
   p .returned ∙ sym (q .returned),
-  same-five (p .labels ∙ sym (q .labels)) (p .objects ∙ sym (q .objects)) (p .values ∙ sym (q .values)) (p .text ∙ sym (q .text)) (p .cells ∙ sym (q .cells)),
+  same-both
+      (p .labels ∙ sym (q .labels))
+      (same-both
+      (p .objects ∙ sym (q .objects))
+      (same-both (p .values ∙ sym (q .values)) (same-both (p .text ∙ sym (q .text)) (p .cells ∙ sym (q .cells))))),
 )

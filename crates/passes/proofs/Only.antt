@@ -1,10 +1,10 @@
 -- Each contract leaves one answer, and one content of what is lent.
 -- Assumes nothing.
-use mathlib.Core.Path.{_≡_, sym, refl, _∙_}
+use mathlib.Core.Path.{sym, refl, _∙_}
 use mathlib.Core.List.{List}
 use Prim.Native.Nat.{ℕ}
 use denote.Ref.{now}
-use Rattle.ground.proofs.Single.{Single, SingleLeaving}
+use Rattle.ground.proofs.Single.{Single, SingleLeaving, same-both}
 use Rattle.passes.proofs.settle.Kinds as settle-kinds
 use Rattle.passes.proofs.settle.Reads as settle
 use Rattle.passes.proofs.settle_in.Kinds as settle-in-kinds
@@ -16,9 +16,6 @@ use Rattle.passes.proofs.labels.store_labels.Reads as store-labels
 
 pub settle-single : SingleLeaving 4 settle-kinds.ps settle-kinds.r (λ κs s. now (s .1 .1 .1 .0)) settle.Post
 settle-single κs a x y s t p q = (p .0 ∙ sym (q .0), p .1 ∙ sym (q .1))
-
-same-both : {a b c d : List ℕ} → a ≡ b → c ≡ d → _≡_ {A = List ℕ × List ℕ} (a, c) (b, d)
-same-both p q = cc
 
 pub settle-in-single :
     SingleLeaving {B = List ℕ × List ℕ} 6 settle-in-kinds.ps settle-in-kinds.r (λ κs s. (now (s .1 .1 .1 .1 .0), now (s .1 .1 .1 .1 .1 .0))) settle-in.Post

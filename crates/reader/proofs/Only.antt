@@ -12,7 +12,7 @@ use ghost.Atoms.{Atoms}
 use contract.Lifetimes.{Lfts}
 use contract.Monad.{Fun, fact}
 use denote.Ref.{now}
-use Rattle.ground.proofs.Single.{Single, SingleLeaving}
+use Rattle.ground.proofs.Single.{Single, SingleLeaving, same-both}
 use Rattle.reader.proofs.read_text.Kinds as read-text-kinds
 use Rattle.reader.proofs.read_text.Reads as read-text
 use Rattle.reader.specs.Ahead.{RunReadIs}
@@ -27,9 +27,6 @@ use Rattle.reader.proofs.runs.read_run.Kinds as read-run-kinds
 use Rattle.reader.proofs.runs.read_run.Reads as read-run
 use Rattle.reader.proofs.runs.run_at.Kinds as run-at-kinds
 use Rattle.reader.proofs.runs.run_at.Reads as run-at
-
-same-both : {a b c d : List ℕ} → a ≡ b → c ≡ d → _≡_ {A = List ℕ × List ℕ} (a, c) (b, d)
-same-both p q = cc
 
 pub read-text-single : SingleLeaving {B = List ℕ × List ℕ} 3 read-text-kinds.ps read-text-kinds.r (λ κs s. (now (s .1 .0), now (s .1 .1 .0))) read-text.Post
 read-text-single κs a x y s t p q = (p .answer ∙ sym (q .answer), same-both (p .bytes ∙ sym (q .bytes)) (p .rows ∙ sym (q .rows)))
