@@ -1,23 +1,11 @@
-// Lines of numbers in upper-case hexadecimal.
+// Lines of numbers in hexadecimal.
 use ground::tables::byte;
+use reader::digit;
 ghost use Prim.Native.Nat.{_<_, _≤_};
 
-// The value of a digit, and 16 for every other character.
-fn digit(c: u8) -> u16
-    ensures { λ r. ⌜ r ≤ 16 ⌝ }
-{
-    match c {
-        48..=57 => c as u16 - 48,
-        65..=70 => c as u16 - 55,
-        _ => 16,
-    }
-}
-
 // A number of one digit; 16 where there is none.
-pub fn one(line: &[u8], at: usize) -> u16
-    ensures { λ r. ⌜ r ≤ 16 ⌝ }
-{
-    digit(byte(line, at))
+pub fn one(line: &[u8], at: usize) -> u16 {
+    digit(byte(line, at)) as u16
 }
 
 // A number of two digits; 256 where one is none.

@@ -13,6 +13,8 @@ use contract.Lifetimes.{Lfts}
 use contract.Monad.{Fun, fact}
 use denote.Ref.{now}
 use Rattle.ground.proofs.Single.{Single, SingleLeaving, same-both}
+use Rattle.reader.proofs.digit.Kinds as digit-kinds
+use Rattle.reader.proofs.digit.Reads as digit
 use Rattle.reader.proofs.read_text.Kinds as read-text-kinds
 use Rattle.reader.proofs.read_text.Reads as read-text
 use Rattle.reader.specs.Ahead.{RunReadIs}
@@ -27,6 +29,9 @@ use Rattle.reader.proofs.runs.read_run.Kinds as read-run-kinds
 use Rattle.reader.proofs.runs.read_run.Reads as read-run
 use Rattle.reader.proofs.runs.run_at.Kinds as run-at-kinds
 use Rattle.reader.proofs.runs.run_at.Reads as run-at
+
+pub digit-single : Single 0 digit-kinds.ps digit-kinds.r digit.Post
+digit-single κs a x y s t p q = p ∙ sym q
 
 pub read-text-single : SingleLeaving {B = List ℕ × List ℕ} 3 read-text-kinds.ps read-text-kinds.r (λ κs s. (now (s .1 .0), now (s .1 .1 .0))) read-text.Post
 read-text-single κs a x y s t p q = (p .answer ∙ sym (q .answer), same-both (p .bytes ∙ sym (q .bytes)) (p .rows ∙ sym (q .rows)))

@@ -26,7 +26,7 @@ pub struct Read {
 }
 
 // The value of a digit of either case; 16 where it is none. Each range is one test, so that the compiler chooses and does not jump.
-fn digit(c: u8) -> u8
+pub fn digit(c: u8) -> u8
     ensures { λ r. ⌜ r ≡ digitOf c ⌝ }
 {
     let decimal = (b'0' <= c) & (c <= b'9');

@@ -1,24 +1,15 @@
-// Lines of text, and numbers in upper-case hexadecimal in them. What is no digit counts as 0.
+// Lines of text, and numbers in hexadecimal in them. What is no digit counts as 0.
 use ground::tables::byte;
+use reader::digit;
 ghost use mathlib.Core.Path.{_≡_};
 ghost use Prim.Native.Nat.{_+_, _<_, _≤_, min};
 ghost use lib.ListN.{length};
 
-fn digit(c: u8) -> u16
-    ensures { λ r. ⌜ r < 16 ⌝ }
-{
-    match c {
-        48..=57 => c as u16 - 48,
-        65..=70 => c as u16 - 55,
-        _ => 0,
-    }
-}
-
-// A number of one digit.
+// A number of one digit. The reader has 16 for what is none.
 pub fn one(line: &[u8], at: usize) -> u8
     ensures { λ r. ⌜ r < 16 ⌝ }
 {
-    digit(byte(line, at)) as u8
+    digit(byte(line, at)) % 16
 }
 
 // A number of two digits.
