@@ -23,7 +23,7 @@ use Rattle.assembly.specs.Text.{settledText}
 use Rattle.assembly.proofs.Places.{Stands}
 use Rattle.assembly.proofs.Rows.{shape-near, shape-known}
 use Rattle.assembly.proofs.Settled.{stands-shape, passed-stand}
-use Rattle.assembly.proofs.Short.{passed-short}
+use Rattle.passes.proofs.Short.{passed-short}
 
 -- values after values, in whole rows
 good-append :

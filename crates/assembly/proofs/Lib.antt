@@ -7,7 +7,6 @@ pub mod Texts
 pub mod Rows
 pub mod Settled
 pub mod Endings
-pub mod Short
 pub mod Lawful
 pub mod Written
 pub mod Made

@@ -6,6 +6,7 @@ pub mod Still
 pub mod Counted
 pub mod Rests
 pub mod Accepted
+pub mod Short
 pub mod Fine
 pub mod Cases
 pub mod Only

@@ -1,39 +1,20 @@
 -- The table that the passes leave holds numbers of 16 bits, as the lent one does.
 -- Assumes nothing.
-use mathlib.Core.Path.{_≡_, refl}
-use mathlib.Core.Bool.{Bool, true, false}
-use mathlib.Core.List.{List, [], _∷_}
-use Prim.Native.Nat.{ℕ, zero, suc, _+_, _*_}
+use mathlib.Core.List.{List}
+use Prim.Native.Nat.{ℕ, zero, suc, _+_}
 use native.Mathlib.Omega.{arith}
 use lib.Dec.{eqb, ltb}
-use lib.ListN.{length, set, replicate}
-use Rattle.ground.specs.Choice.{pick}
+use lib.ListN.{replicate}
 use Rattle.ground.proofs.Choices.{by-pick}
-use Rattle.expressions.specs.Finding.{rowAt, labelRow}
-use Rattle.expressions.proofs.Every.{Cells}
+use Rattle.expressions.specs.Finding.{labelRow}
+use Rattle.expressions.proofs.Every.{Cells, cells-set, label-node-has}
 use Rattle.expressions.proofs.Fits.{Short}
 use Rattle.statements.specs.Listing.{rowsOf}
 use Rattle.passes.specs.Labels.{bearerOf, begunState, begunRows, begunTable}
 use Rattle.passes.specs.Walks.{Source, Walk, hereOf, cellOf, marksOf, markedLabels, markOf, resizeOf, advanceOf, doneOf, stepOf, walkOf, startOf, walkTo}
 use Rattle.passes.specs.Passes.{Outcome, passOf, afterOf, settleOf, mostPasses, passedOf}
-
-set-short : (l : List ℕ) (i v : ℕ) → Cells Short l → Short v → Cells Short (set l i v)
-set-short [] i v h s k = h k
-set-short (x ∷ xs) zero v h s zero = s
-set-short (x ∷ xs) zero v h s (suc k) = h (suc k)
-set-short (x ∷ xs) (suc i) v h s zero = h zero
-set-short (x ∷ xs) (suc i) v h s (suc k) = set-short xs i v (λ j. h (suc j)) s k
 
 -- ---- before the first pass
-node-short : (ls : List ℕ) (k : ℕ) → Cells Short ls → Short (labelRow ls k .third)
-unfolding labelRow rowAt pick
-node-short ls k h = from (ltb 511 k) refl (ltb (length ls) (k * 3 + 3)) refl
-  where
-    from : (a : Bool) → ltb 511 k ≡ a → (b : Bool) → ltb (length ls) (k * 3 + 3) ≡ b → Short (labelRow ls k .third)
-    from true p b q = rw p (omega arith)
-    from false p true q = rw (p, q) (omega arith)
-    from false p false q = rw (p, q) (h (k * 3 + 2))
-
 state-short : (list ls : List ℕ) (k : ℕ) → Short (begunState list ls k)
 unfolding begunState
 state-short list ls k =
@@ -44,7 +25,7 @@ unfolding begunRows
 rows-short list ls h zero k j = omega arith
 rows-short list ls h (suc n) k zero = state-short list ls k
 rows-short list ls h (suc n) k (suc zero) = omega arith
-rows-short list ls h (suc n) k (suc (suc zero)) = node-short ls k h
+rows-short list ls h (suc n) k (suc (suc zero)) = label-node-has Short (omega arith) ls k h
 rows-short list ls h (suc n) k (suc (suc (suc j))) = rows-short list ls h n (k + 1) j
 
 -- ---- in every pass
@@ -52,7 +33,7 @@ module _ (src : Source) where
   step-short : (i : ℕ) (w : Walk) → Cells Short (w .labels) → Cells Short (stepOf src i w .labels)
   unfolding stepOf doneOf resizeOf advanceOf markOf markedLabels
   step-short i w h =
-      by-pick (Cells Short) (marksOf (src .list) i) (set-short (w .labels) (cellOf (src .list) i) (hereOf (w .state)) h (omega arith)) h
+      by-pick (Cells Short) (marksOf (src .list) i) (cells-set Short (w .labels) (cellOf (src .list) i) (hereOf (w .state)) h (omega arith)) h
 
   walk-short : (n i : ℕ) (w : Walk) → Cells Short (w .labels) → Cells Short (walkOf src n i w .labels)
   unfolding walkOf
