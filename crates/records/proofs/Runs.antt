@@ -31,6 +31,20 @@ before-twice a (b ∷ bs) [] rs = ap (λ (l : List ℕ). before a (b ∷ l) rs) 
 before-twice a (b ∷ bs) (c ∷ cs) rs =
     join-on (record { address = a; bytes = b ∷ bs }) (record { address = a + length (b ∷ bs); bytes = c ∷ cs }) rs refl
 
+-- so a piece before one run that goes on where it ends is one run with it
+close-before : (a : ℕ) (p : List ℕ) → close a p [] ≡ before a p []
+close-before a [] = refl
+close-before a (b ∷ bs) = refl
+
+pub runs-on :
+    (a next : ℕ) (bs cs : List ℕ) (rs : List Rec) → next ≡ a + length bs → runsOf rs ≡ close next cs [] →
+    runsOf (close a bs rs) ≡ close a (bs ++ cs) []
+runs-on a next bs cs rs e r =
+    runs-close a bs rs
+    ∙ ap (before a bs) (r ∙ close-before next cs ∙ ap (λ (n : ℕ). before n cs []) e)
+    ∙ before-twice a bs cs []
+    ∙ sym (close-before a (bs ++ cs))
+
 -- the bytes of an object go to the present record and to those after it: one run with it all the same
 bytes-run :
     (bs : List ℕ) (a : ℕ) (p : List ℕ) (es : List Event) (rs : List Rec) →

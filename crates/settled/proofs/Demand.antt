@@ -18,6 +18,7 @@ use Rattle.records.specs.Objects as records
 use Rattle.records.specs.Objects.{Object, With}
 use Rattle.records.specs.Text.{close}
 use Rattle.records.specs.Runs.{runsOf, pieces}
+use Rattle.records.proofs.Runs.{runs-on}
 use Rattle.reader.specs.Answers.{runsIn}
 use Rattle.reader.proofs.Round.{tables-read}
 use Rattle.instruction.specs.declared.Record.{Record}
@@ -47,7 +48,6 @@ use Rattle.assembly.proofs.Lawful.{lawful}
 use Rattle.assembly.proofs.Made.{settled-bytes, recordIn, builtIn, built-accepted, built-bytes}
 use Rattle.settled.specs.Code.{isCode, recordsIn, recordsFrom, recordsIs}
 use Rattle.settled.specs.Demand.{bytesIs, SettledDemand}
-use Rattle.settled.proofs.Joined.{runs-on}
 
 -- ---- one statement
 module _ (src : Source) (o : Outcome) (i : ℕ) (s : Stands src o i) where
@@ -184,7 +184,6 @@ module _
           let same = built-bytes src o i node s is in
           let near = instruction-near src o i s node is in
           let inside : at % 65536 ≡ at = omega (arith, sized .some) in
-          let some : 0 < length (bytesIn src o i) = omega (arith, sized .some, sized .bytes, ap length same) in
           let on : addressAt src o (i + 1) ≡ at % 65536 + length (bytesIn src o i) = omega (arith, next, inside, sized .bytes, ap length same) in
           let later = bytesFrom rest (addressAt src o (i + 1)) in
           let list = ap (λ (l : List Record). l ++ rest) (instruction-records src o i s node is) in
@@ -196,7 +195,7 @@ module _
             built = ap (λ (l : List Record). allBuilt l at) list ∙ lay-more r rest at (addressAt src o (i + 1)) z next (j .built);
             runs =
                 ap (λ (l : List Object). runsOf (pieces (l ++ madeFrom src o n (i + 1)))) (instruction-made src o i s node is)
-                ∙ runs-on (at % 65536) (addressAt src o (i + 1)) (bytesIn src o i) later (pieces (madeFrom src o n (i + 1))) some on (j .runs)
+                ∙ runs-on (at % 65536) (addressAt src o (i + 1)) (bytesIn src o i) later (pieces (madeFrom src o n (i + 1))) on (j .runs)
                 ∙ ap (λ (a : ℕ). close a (bytesIn src o i ++ later) []) inside
                 ∙ ap (λ (l : List ℕ). close at l []) (sym bytes);
             ends =
