@@ -22,7 +22,7 @@ use Rattle.passes.specs.Labels.{illOf}
 use Rattle.passes.specs.Walks.{Source, Walk, startOf, hereOf, touched, marksOf, cellOf, markedState, effectIn, sizedState, firstRefusal, judged, grown, moved, originState, advancedState, markOf, resizeOf, advanceOf, doneOf, stepOf, walkOf, walkTo}
 use Rattle.passes.specs.Passes.{passOf}
 use Rattle.passes.proofs.Still.{pass-next, settled-effects}
-use Rattle.passes.proofs.Accepted.{Moving, accepted-well, counted-moving}
+use Rattle.statements.proofs.Accepted.{Moving, accepted-well, counted-moving}
 
 -- ---- the first refusal stays, and `fine` counts the statements up to it
 pub record Judged (i refusal fine : ℕ) (t : State) : Type 0 where

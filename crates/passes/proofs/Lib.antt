@@ -5,7 +5,6 @@ pub mod Rounds
 pub mod Still
 pub mod Counted
 pub mod Rests
-pub mod Accepted
 pub mod Short
 pub mod Fine
 pub mod Cases
