@@ -1,5 +1,6 @@
 // The lines of a listing, written to a lent buffer. What would lie past its end is not stored, so that a listing can be measured first.
 use ground::buffers::store;
+use ground::buffers::store_all;
 use records::hex::store_digits;
 ghost use mathlib.Core.List.{[], _∷_};
 ghost use Prim.Native.Nat.{_+_, _*_, _^_, _<_};
@@ -57,14 +58,8 @@ fn put_word(out: &mut [u8], at: usize, word: &[u8]) -> usize
     requires { ⌜ at + length (now word) < 2 ^ 64 ⌝ }
     ensures { λ r. ⌜ Wrote (now (out .entry)) at (now (word .entry)) r (now (out .exit)) ⌝ }
 {
-    let mut end = at;
-    let mut i = 0;
-    while i < word.len() {
-        store(out, end, word[i]);
-        end += 1;
-        i += 1;
-    }
-    end
+    store_all(out, at, word);
+    at + word.len()
 }
 
 // The digit at one place of a number, unless it would lead with a zero.
