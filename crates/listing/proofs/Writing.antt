@@ -5,16 +5,12 @@ use mathlib.Core.List.{List, [], _∷_, _++_}
 use Prim.Native.Nat.{ℕ, _+_, _*_, _%_, _≤_}
 use native.Mathlib.Omega.{arith}
 use lib.Dec.{leb}
-use lib.ListN.{length, length-append, set}
+use lib.ListN.{length, length-append}
 use Rattle.ground.specs.Stores.{Wrote}
 use Rattle.ground.proofs.Stores.{rest}
 use Rattle.ground.proofs.Choices.{by-pick}
 use Rattle.listing.specs.Lines.{spaced, lineOf, placeOf, decimal, lastLine}
 use Rattle.listing.specs.Steps.{Leads}
-
--- one character
-pub one : {d e : List ℕ} {at c : ℕ} → e ≡ set d at c → Wrote d at (c ∷ []) (at + 1) e
-one p = record { next = refl; buffer = p }
 
 -- nothing is written yet
 pub leads-all : (d : List ℕ) (at : ℕ) (xs : List ℕ) → Leads d at xs d at xs

@@ -7,7 +7,7 @@ use native.Mathlib.Omega.{arith}
 use lib.ListN.{length, length-append, set}
 use Rattle.ground.specs.Stores.{Wrote}
 use Rattle.ground.specs.Words.{high, low}
-use Rattle.ground.proofs.Stores.{and-then}
+use Rattle.ground.proofs.Stores.{wrote-one, and-then}
 use Rattle.records.specs.Hex.{hexes}
 use Rattle.records.specs.Line.{sum, checkOf, body, line}
 use Rattle.records.specs.Penned.{Penned}
@@ -51,9 +51,6 @@ penned-then {bs = bs} {cs = cs} v w = record {
   total = omega (arith, v .total, w .total, sum-append bs cs);
 }
 
-one : {d e : List ℕ} {at c : ℕ} → e ≡ set d at c → Wrote d at (c ∷ []) (at + 1) e
-one p = record { next = refl; buffer = p }
-
 -- the parts of a line: the colon, the bytes, their check, and the line feed
 pub line-wrote :
     (kind address : ℕ) (bs : List ℕ) {d d′ e f g h : List ℕ} {at : ℕ} {m r t : Pen} →
@@ -65,4 +62,4 @@ unfolding line body checkOf
 line-wrote kind address bs {r = r} colon u v w feed =
     let all = penned-then u v in
     let same : checkOf (r .sum ∷ []) ≡ checkOf (body kind address bs) = omega (arith, all .total) in
-    and-then (one colon) (and-then (rw same at (penned-then all w .digits)) (one feed))
+    and-then (wrote-one colon) (and-then (rw same at (penned-then all w .digits)) (wrote-one feed))

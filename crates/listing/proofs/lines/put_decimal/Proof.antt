@@ -1,8 +1,8 @@
 -- `listing::lines::put_decimal` meets its contract: the places follow one another.
 -- Assumes nothing.
-use Rattle.ground.proofs.Stores.{and-then}
+use Rattle.ground.proofs.Stores.{wrote-one, and-then}
 use Rattle.listing.specs.Lines.{decimal}
-use Rattle.listing.proofs.Writing.{one, place-short}
+use Rattle.listing.proofs.Writing.{place-short}
 use borrow.Author.Needs.{needs}
 use native.Mathlib.Omega.{arith}
 use Rattle.listing.proofs.lines.put_decimal.Statement.{statement}
@@ -40,7 +40,7 @@ unfolding decimal
 returns c =
     and-then (c .before .before .before .before .before .before .before .before .before .before .before .before .before .before .before .before .before .before .put-place .ensures)
     (and-then (c .before .before .before .before .before .before .before .before .before .before .before .before .before .before .put-place2 .ensures)
-    (and-then (c .before .before .before .before .before .before .before .before .before .before .put-place3 .ensures) (and-then (c .before .before .before .before .before .before .put-place4 .ensures) (one (c .before .before .store .ensures)))))
+    (and-then (c .before .before .before .before .before .before .before .before .before .before .put-place3 .ensures) (and-then (c .before .before .before .before .before .before .put-place4 .ensures) (wrote-one (c .before .before .store .ensures)))))
 
 pub put-decimal-spec : {M : Type 1} → statement M
 put-decimal-spec =

@@ -1,9 +1,9 @@
 -- `listing::lines::put_instruction` meets its contract: the parts of the line follow one another.
 -- Assumes nothing.
 use denote.Ref.{now}
-use Rattle.ground.proofs.Stores.{and-then}
+use Rattle.ground.proofs.Stores.{wrote-one, and-then}
 use Rattle.listing.specs.Lines.{lineOf}
-use Rattle.listing.proofs.Writing.{one, spaced-length}
+use Rattle.listing.proofs.Writing.{spaced-length}
 use borrow.Author.Needs.{needs}
 use native.Mathlib.Omega.{arith}
 use Rattle.listing.proofs.lines.put_instruction.Statement.{statement}
@@ -43,7 +43,7 @@ same-length c = search needs
 returns : tie.Need-returns
 unfolding lineOf
 returns c =
-    and-then (c .before .before .before .before .before .before .before .before .before .before .before .before .before .before .put-byte .ensures) (and-then (c .before .before .before .before .before .before .before .before .before .before .put-byte2 .ensures) (and-then (c .before .before .before .before .before .before .put-bytes .ensures) (one (c .before .before .store .ensures))))
+    and-then (c .before .before .before .before .before .before .before .before .before .before .before .before .before .before .put-byte .ensures) (and-then (c .before .before .before .before .before .before .before .before .before .before .put-byte2 .ensures) (and-then (c .before .before .before .before .before .before .put-bytes .ensures) (wrote-one (c .before .before .store .ensures))))
 
 pub put-instruction-spec : {M : Type 1} → statement M
 put-instruction-spec =

@@ -1,8 +1,8 @@
 -- `listing::lines::put_last` meets its contract: the parts of the line follow one another.
 -- Assumes nothing.
-use Rattle.ground.proofs.Stores.{and-then}
+use Rattle.ground.proofs.Stores.{wrote-one, and-then}
 use Rattle.listing.specs.Lines.{lastLine}
-use Rattle.listing.proofs.Writing.{one, decimal-short}
+use Rattle.listing.proofs.Writing.{decimal-short}
 use borrow.Author.Needs.{needs}
 use native.Mathlib.Omega.{arith}
 use Rattle.listing.proofs.lines.put_last.Statement.{statement}
@@ -25,7 +25,7 @@ same-length c = search needs
 
 returns : tie.Need-returns
 unfolding lastLine
-returns c = and-then (c .before .before .before .before .before .before .before .before .before .before .put-word .ensures) (and-then (c .before .before .before .before .before .before .put-decimal .ensures) (one (c .before .before .store .ensures)))
+returns c = and-then (c .before .before .before .before .before .before .before .before .before .before .put-word .ensures) (and-then (c .before .before .before .before .before .before .put-decimal .ensures) (wrote-one (c .before .before .store .ensures)))
 
 pub put-last-spec : {M : Type 1} → statement M
 put-last-spec =

@@ -3,7 +3,7 @@
 use mathlib.Core.Path.{refl}
 use Rattle.ground.specs.Choice.{pick}
 use Rattle.listing.specs.Lines.{placeOf}
-use Rattle.listing.proofs.Writing.{one}
+use Rattle.ground.proofs.Stores.{wrote-one}
 use borrow.Author.Needs.{needs}
 use native.Mathlib.Omega.{arith}
 use Rattle.listing.proofs.lines.put_place.Statement.{statement}
@@ -29,7 +29,7 @@ same-length c = search needs
 
 returns : tie.Need-returns
 unfolding placeOf pick
-returns c = rw (c .before .before .before .before .if1 .taken) (one (c .before .before .store .ensures))
+returns c = rw (c .before .before .before .before .if1 .taken) (wrote-one (c .before .before .store .ensures))
 
 returns-2 : tie.Need-returns-2
 unfolding placeOf pick

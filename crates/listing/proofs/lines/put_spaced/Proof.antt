@@ -1,7 +1,6 @@
 -- `listing::lines::put_spaced` meets its contract: a blank, and then the byte.
 -- Assumes nothing.
-use Rattle.ground.proofs.Stores.{and-then}
-use Rattle.listing.proofs.Writing.{one}
+use Rattle.ground.proofs.Stores.{wrote-one, and-then}
 use borrow.Author.Needs.{needs}
 use Rattle.listing.proofs.lines.put_spaced.Statement.{statement}
 use Rattle.listing.proofs.lines.put_spaced.Tie as tie
@@ -19,7 +18,7 @@ same-length : tie.Need-same-length
 same-length c = search needs
 
 returns : tie.Need-returns
-returns c = and-then (one (c .before .before .before .before .before .before .store .ensures)) (c .before .before .put-byte .ensures)
+returns c = and-then (wrote-one (c .before .before .before .before .before .before .store .ensures)) (c .before .before .put-byte .ensures)
 
 pub put-spaced-spec : {M : Type 1} → statement M
 put-spaced-spec =
