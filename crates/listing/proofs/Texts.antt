@@ -1,6 +1,6 @@
 -- The runs of a text, one after the other: the run that is read at a place is the first of those from there on.
 -- Assumes nothing.
-use borrow.Author.Tests.{ltb-false, eqb-true, eqb-false, not-true}
+use borrow.Author.Tests.{eqb-true, eqb-false, not-true}
 use mathlib.Core.Path.{_≡_, refl, sym, ap, _∙_, subst}
 use mathlib.Core.Bool.{Bool, true, false, false≢true}
 use mathlib.Core.List.{List, [], _∷_}
@@ -11,37 +11,20 @@ use lib.Dec.{eqb, ltb}
 use lib.ListN.{length, getD, take, drop, length-append, length-take, length-drop}
 use lib.Seq.{take-append-seam}
 use Rattle.ground.specs.Choice.{pick}
-use Rattle.ground.proofs.Choices.{pick-true, by-pick, by-test}
+use Rattle.ground.proofs.Choices.{pick-true, by-pick}
 use Rattle.records.specs.Text.{Rec}
 use Rattle.records.specs.Runs.{runsOf}
 use Rattle.reader.specs.Digits.{pairOf, bytesIn, behind}
 use Rattle.reader.specs.Lines.{countOf, dataOf, afterEnd, Front, Record, EndRecord, NoRecord, recordOf, lineIn, Found, Good, Bad, more, found, recordsIn}
 use Rattle.reader.specs.Answers.{tooFar, bytesOf, sizeOf, runsFound, runsIn, onto}
-use Rattle.reader.specs.Ahead.{followIn, handedRun, begun, runOf, refusalAt, askedOf, RunReadIs}
+use Rattle.reader.specs.Ahead.{runOf, refusalAt, askedOf, RunReadIs}
 use Rattle.reader.specs.Steps.{fine}
 use Rattle.reader.specs.declared.runs.Run.{Run}
 use Rattle.reader.proofs.Joins.{bytes-runs}
 use Rattle.reader.proofs.Records.{records-on}
-use Rattle.reader.proofs.Handing.{asked-start, asked-refused, asked-there, fits-answer}
+use Rattle.reader.proofs.Handing.{asked-start, asked-refused, asked-there, Near, run-near, fits-answer}
 use Rattle.reader.proofs.Tallies.{fine-size}
 use Rattle.reader.proofs.Ahead.{run-handed, run-none}
-
--- no run goes beyond 65535
-abbrev Near : Run → Type 0
-Near r = r .address + r .bytes ≤ 65536
-
-near-by : (text : List ℕ) (at : ℕ) (f : Front) → Near (begun text at f)
-unfolding handedRun
-near-by text at (Record r after) =
-    let a = followIn r after in
-    let end = a .run .address + length (a .run .bytes) in
-    by-test Near (ltb 65536 end) (λ _. omega arith) (λ t. ltb-false 65536 end t)
-near-by text at EndRecord = omega arith
-near-by text at NoRecord = omega arith
-
-run-near : (text : List ℕ) (at : ℕ) → Near (runOf text at)
-unfolding runOf
-run-near text at = near-by text at (lineIn (drop at text))
 
 -- the run read at a place: the first of the runs from there on, and the others from the place after it on
 pub record Next (text : List ℕ) (at : ℕ) (r : Run) (d : List ℕ) : Type 0 where

@@ -11,7 +11,7 @@ use lib.ListN.{length, drop}
 use Rattle.ground.specs.Choice.{pick}
 use Rattle.ground.specs.Refusals.{noRoom, beyond}
 use Rattle.ground.specs.Stores.{put}
-use Rattle.ground.proofs.Choices.{pick-true, pick-false, by-pick}
+use Rattle.ground.proofs.Choices.{pick-true, pick-false, by-test, by-pick}
 use Rattle.ground.proofs.Stores.{put-front}
 use Rattle.records.specs.Text.{Rec}
 use Rattle.reader.specs.Lines.{Front, Record, EndRecord, NoRecord, lineIn, recordsIn}
@@ -125,6 +125,26 @@ module _ (text : List ℕ) (at : ℕ) where
   left-by false b h =
       let e : askedOf text at ≡ refusedRun (refusalAt text at) = pick-false _ _ b in
       pick-false _ _ (ap (λ (x : Run). eqb (x .refusal) 0) e ∙ b)
+
+-- no run that is handed out goes beyond 65535
+abbrev pub Near : Run → Type 0
+Near r = r .address + r .bytes ≤ 65536
+
+begun-near : (text : List ℕ) (at : ℕ) (f : Front) → Near (begun text at f)
+unfolding handedRun
+begun-near text at (Record r t) =
+    let end = after (followIn r t .run) in
+    by-test Near (ltb 65536 end) (λ _. omega arith) (λ b. ltb-false 65536 end b)
+begun-near text at EndRecord = omega arith
+begun-near text at NoRecord = omega arith
+
+pub run-near : (text : List ℕ) (at : ℕ) → Near (runOf text at)
+unfolding runOf
+run-near text at = begun-near text at (lineIn (drop at text))
+
+pub asked-near : (text : List ℕ) (at : ℕ) → Near (askedOf text at)
+unfolding askedOf
+asked-near text at = by-pick Near (eqb (refusalAt text at) 0) (run-near text at) (omega arith)
 
 module _ (text : List ℕ) (at : ℕ) (run : Run) (m : run ≡ askedOf text at) where
   there : 0 < run .bytes → run ≡ runOf text at

@@ -1,6 +1,6 @@
 -- The first run of a text as the run reader hands it out with room for any run, and what the comparison with it comes to.
 -- Assumes nothing.
-use borrow.Author.Tests.{eq-eqb, ne-eqb, eqb-true, eqb-false, ltb-false, le-ltb}
+use borrow.Author.Tests.{eq-eqb, ne-eqb, eqb-true, eqb-false, le-ltb}
 use mathlib.Core.Path.{_≡_, refl, sym, ap, _∙_}
 use mathlib.Core.Bool.{Bool, true, false, _&&_}
 use mathlib.Core.List.{List, [], _∷_}
@@ -9,14 +9,14 @@ use native.Mathlib.Omega.{arith}
 use lib.Dec.{eqb, ltb}
 use lib.ListN.{length, take, drop, length-append}
 use lib.Seq.{take-at}
-use Rattle.ground.proofs.Choices.{pick-true, pick-false, by-test, by-pick}
+use Rattle.ground.proofs.Choices.{pick-true, pick-false, by-pick}
 use Rattle.records.specs.Text.{Rec}
-use Rattle.reader.specs.Lines.{Front, Record, EndRecord, NoRecord, lineIn, recordsIn}
+use Rattle.reader.specs.Lines.{recordsIn}
 use Rattle.reader.specs.Answers.{sizeOf, runsIn, onto}
-use Rattle.reader.specs.Ahead as ahead
-use Rattle.reader.specs.Ahead.{followIn, refusedRun, handedRun, begun, refusalAt, askedOf, roomRun, readRunOf, RunReadIs}
+use Rattle.reader.specs.Ahead.{refusedRun, askedOf, roomRun, readRunOf, RunReadIs}
 use Rattle.reader.specs.Held.{HandsOut}
 use Rattle.reader.specs.declared.runs.Run.{Run}
+use Rattle.reader.proofs.Handing.{Near, asked-near}
 use Rattle.reader.proofs.Same.{held-same, held-refused}
 use Rattle.reader.proofs.Only.{read-run-only}
 use Rattle.decoder.specs.declared.Origin.{Origin}
@@ -32,21 +32,6 @@ use Rattle.roundtrip.specs.declared.comparing.Agreement.{Agreement}
 use Rattle.roundtrip.proofs.Agreeing.{accepted-inside}
 
 -- ---- what the run reader answers
-abbrev Near : Run → Type 0
-Near r = r .address + r .bytes ≤ 65536
-
--- no run that is handed out goes beyond 65535
-asked-near : (text : List ℕ) (at : ℕ) → Near (askedOf text at)
-unfolding askedOf ahead.runOf handedRun
-asked-near text at = by-pick Near (eqb (refusalAt text at) 0) (there (lineIn (drop at text))) (omega arith)
-  where
-    there : (f : Front) → Near (begun text at f)
-    there (Record r after) =
-        let p = followIn r after .run in
-        by-test Near (ltb 65536 (p .address + length (p .bytes))) (λ _. omega arith) (ltb-false 65536 (p .address + length (p .bytes)))
-    there EndRecord = omega arith
-    there NoRecord = omega arith
-
 read-near : (text : List ℕ) (at room : ℕ) → Near (readRunOf text at room)
 unfolding readRunOf roomRun
 read-near text at room = by-pick Near (ltb room (askedOf text at .bytes)) (omega arith) (asked-near text at)
