@@ -16,7 +16,7 @@ use Rattle.records.specs.Hex.{hexOf, hexes}
 use Rattle.records.specs.Line.{sum, checkOf, body, line}
 use Rattle.records.specs.Text.{Rec, text}
 use Rattle.records.specs.Fine.{Each, Bytes}
-use Rattle.records.proofs.Writing.{length-hexes}
+use Rattle.records.proofs.Writing.{length-hexes, sum-append}
 use Rattle.records.proofs.Fine.{bytes-append}
 use Rattle.reader.specs.Digits.{digitOf, pairOf, bytesIn, behind}
 use Rattle.reader.specs.Lines.{countOf, addressOf, typeOf, dataOf, sound, endsLine, afterEnd, Front, Record, EndRecord, NoRecord, recordOf, lineIn, Good, more, found, recordsIn}
@@ -55,10 +55,6 @@ module _ (bs r : List ℕ) (w : Bytes bs) where
   behind-back = rw digits-back (drop-at (hexes bs) (10 ∷ r) (2 * length bs) (length-hexes bs))
 
 -- the check makes the sum 0
-sum-append : (xs ys : List ℕ) → sum (xs ++ ys) ≡ sum xs + sum ys
-sum-append [] ys = omega arith
-sum-append (x ∷ xs) ys = omega (arith, sum-append xs ys)
-
 check-zero : (bs : List ℕ) → sum (bs ++ (checkOf bs ∷ [])) % 256 ≡ 0
 unfolding checkOf
 check-zero bs = omega (arith, sum-append bs (checkOf bs ∷ []))
