@@ -78,7 +78,8 @@ pub fn evaluate_pair(nodes: &[u16], labels: &[u16], node: u16, location: u16) ->
     pair_of(finding::node(nodes, labels, node, location))
 }
 
-fn refused(refusal: u8) -> Answer
+// A refusal in place of a value.
+pub fn refused(refusal: u8) -> Answer
     ensures { λ r. ⌜ r ≡ refusedAnswer refusal ⌝ }
 {
     let value = Value {

@@ -7,13 +7,13 @@ use crate::order::earlier;
 use expressions::Answer;
 use expressions::evaluate;
 use expressions::evaluate_pair;
+use expressions::refused;
 use ground::refusals::BAD_WIDTH;
 use ground::refusals::UNKNOWN;
 use ground::refusals::VALUE_MISSING;
 use instruction::Values;
 use values::Value;
 ghost use mathlib.Core.Path.{_≡_};
-ghost use Rattle.expressions.specs.Answers.{refusedAnswer};
 ghost use Rattle.statements.specs.Order.{earliest};
 ghost use Rattle.statements.specs.Asking.{askedOf, wantedOf, byteOf, wordOf, characterOf, datumOf, answersFrom, refusalsIn};
 
@@ -45,16 +45,6 @@ pub(crate) fn ask(nodes: &[u16], labels: &[u16], node: u16, here: u16) -> Asked
         refusal: both.refusal,
         values,
     }
-}
-
-fn refused(refusal: u8) -> Answer
-    ensures { λ r. ⌜ r ≡ refusedAnswer refusal ⌝ }
-{
-    let value = Value {
-        number: 0,
-        width: 0,
-    };
-    Answer { refusal, value }
 }
 
 // The unsigned value of a node that must be there.
