@@ -3,16 +3,16 @@
 use mathlib.Core.Path.{_≡_, refl}
 use mathlib.Core.List.{List}
 use Prim.Native.Nat.{ℕ}
-use Rattle.entries.specs.Entries.{byteIn, isFlag, flagIn, flaggedIn, cellsOf, registersIn, operandOf, keptOf, valueIn, valuesIn, allFlagged, toldIn, entryOf}
+use Rattle.entries.specs.Entries.{byteIn, isFlag, flagIn, flaggedIn, cellsOf, registersIn, fieldsIn, toldIn, operandOf, keptFlagged, keptOf, valueIn, valuesIn, allFlagged, entryOf}
 
 pub operand-of-cells : (row : List ℕ) → operandOf (cellsOf row) ≡ operandOf row
-unfolding cellsOf operandOf registersIn flagIn byteIn
+unfolding cellsOf operandOf toldIn flaggedIn isFlag fieldsIn registersIn flagIn byteIn
 operand-of-cells row = refl
 
 pub kept-of-cells : (row : List ℕ) → keptOf (cellsOf row) ≡ keptOf row
-unfolding cellsOf keptOf operandOf registersIn flagIn byteIn
+unfolding cellsOf keptOf toldIn keptFlagged flaggedIn isFlag fieldsIn registersIn flagIn byteIn
 kept-of-cells row = refl
 
 pub entry-of-cells : (row : List ℕ) → entryOf (cellsOf row) ≡ entryOf row
-unfolding cellsOf entryOf toldIn allFlagged flaggedIn isFlag operandOf registersIn valuesIn valueIn flagIn byteIn
+unfolding cellsOf entryOf toldIn allFlagged flaggedIn isFlag fieldsIn registersIn valuesIn valueIn flagIn byteIn
 entry-of-cells row = refl

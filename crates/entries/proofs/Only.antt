@@ -8,8 +8,6 @@ use Rattle.entries.proofs.is_flag.Kinds as is-flag-kinds
 use Rattle.entries.proofs.is_flag.Reads as is-flag
 use Rattle.entries.proofs.flag_in.Kinds as flag-in-kinds
 use Rattle.entries.proofs.flag_in.Reads as flag-in
-use Rattle.entries.proofs.flagged.Kinds as flagged-kinds
-use Rattle.entries.proofs.flagged.Reads as flagged
 use Rattle.entries.proofs.operand_of.Kinds as operand-of-kinds
 use Rattle.entries.proofs.operand_of.Reads as operand-of
 use Rattle.entries.proofs.kept_of.Kinds as kept-of-kinds
@@ -25,9 +23,6 @@ is-flag-single κs a x y s t p q = p ∙ sym q
 
 pub flag-in-single : Single 1 flag-in-kinds.ps flag-in-kinds.r flag-in.Post
 flag-in-single κs a x y s t p q = p ∙ sym q
-
-pub flagged-single : Single 1 flagged-kinds.ps flagged-kinds.r flagged.Post
-flagged-single κs a x y s t p q = p ∙ sym q
 
 pub operand-of-single : Single 1 operand-of-kinds.ps operand-of-kinds.r operand-of.Post
 operand-of-single κs a x y s t p q = p ∙ sym q

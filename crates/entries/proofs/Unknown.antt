@@ -1,7 +1,7 @@
 -- A cell that holds no number of its kind is refused 1: "operation or field number unknown, over 8 registers".
 -- Assumes nothing.
 use mathlib.Core.Path.{_≡_, refl}
-use mathlib.Core.Bool.{false, not}
+use mathlib.Core.Bool.{Bool, false, not}
 use mathlib.Core.List.{List, [], _∷_}
 use Prim.Native.Nat.{ℕ}
 use lib.Dec.{ltb, leb}
@@ -11,9 +11,10 @@ use Rattle.values.specs.Widths.{bitsOf, validOf}
 use Rattle.rows.specs.Sheet.{page0, page10, page11, tableOf}
 use Rattle.rows.specs.Lookup.{mergedOf, placed, hasFormOf, knownOf}
 use Rattle.postbytes.specs.Registers.{unknownRegister}
-use Rattle.instruction.specs.Records.{recognised}
-use Rattle.instruction.specs.Building.{makeOf, freshFrom, freshOf}
-use Rattle.entries.specs.Entries.{nowhere, allFlagged, toldIn, entryOf}
+use Rattle.instruction.specs.declared.Values.{Values}
+use Rattle.instruction.specs.Records.{recognised, sound}
+use Rattle.instruction.specs.Building.{makeOf, operandRefusal, earlyOf, buildOf, freshFrom, freshOf}
+use Rattle.entries.specs.Entries.{nowhere, flaggedIn, toldIn, operandOf, keptFlagged, keptOf, allFlagged, entryOf}
 
 -- no operation, mode, register, step or width is 255, and it is over 8 registers
 no-operation : knownOf nowhere ≡ false
@@ -33,10 +34,19 @@ unfolding pick bitsOf validOf
 nowhere-known = rw no-operation
 
 -- a flag that is neither 0 nor 1
-unrecognised : (row : List ℕ) → allFlagged row ≡ false → recognised (entryOf row .operand) ≡ false
-unfolding entryOf toldIn recognised pick
-unrecognised row e = rw (e, no-operation)
+unrecognised : (row : List ℕ) → recognised (toldIn false row) ≡ false
+unfolding toldIn recognised pick
+unrecognised row = rw no-operation
 
 pub bad-flag : (row : List ℕ) (address : ℕ) → allFlagged row ≡ false → freshOf (entryOf row) address .refusal ≡ unknown
-unfolding freshOf freshFrom makeOf pick
-bad-flag row address e = rw (unrecognised row e)
+unfolding entryOf freshOf freshFrom makeOf pick
+bad-flag row address e = rw (e, unrecognised row)
+
+pub bad-operand-flag : (row : List ℕ) → flaggedIn row ≡ false → operandRefusal (operandOf row) ≡ unknown
+unfolding operandOf operandRefusal pick
+bad-operand-flag row e = rw (e, unrecognised row)
+
+pub bad-kept-flag :
+    (row : List ℕ) (v : Values) (dirty : Bool) (address : ℕ) → keptFlagged row ≡ false → buildOf (keptOf row) v dirty address .refusal ≡ unknown
+unfolding keptOf buildOf earlyOf sound pick
+bad-kept-flag row v dirty address e = rw (e, unrecognised row)

@@ -54,8 +54,9 @@ registersIn row =
     ∷ byteIn row 14
     ∷ []
 
-unfoldable pub operandOf : List ℕ → Operand
-operandOf row = record {
+-- what its cells hold
+unfoldable pub fieldsIn : List ℕ → Operand
+fieldsIn row = record {
   operation = byteIn row 0;
   mode = byteIn row 1;
   indirect = flagIn row 2;
@@ -65,23 +66,6 @@ operandOf row = record {
   step = byteIn row 4;
   widening = flagIn row 5;
 }
-
--- ---- the kept instruction: its operand, its form, its trial mark and its widening
-unfoldable pub keptOf : List ℕ → Instruction
-keptOf row =
-    record { operand = operandOf row; form = byteIn row 15; trial = flagIn row 16; widened = flagIn row 17 }
-
--- ---- the record
--- a number and its width
-unfoldable pub valueIn : List ℕ → ℕ → Value
-valueIn row at = record { number = getD row at 0; width = byteIn row (at + 1) }
-
-unfoldable pub valuesIn : List ℕ → Values
-valuesIn row = record { given = flagIn row 16; unsigned = valueIn row 17; signed = valueIn row 19 }
-
--- page dirty and values given are flags too
-unfoldable pub allFlagged : List ℕ → Bool
-allFlagged row = flaggedIn row && (isFlag row 15 && isFlag row 16)
 
 -- an operand of no known operation
 abbrev pub unknownAs : Operand → Operand
@@ -96,9 +80,33 @@ unknownAs o = record {
   widening = o .widening;
 }
 
--- "field number unknown": a record with a flag that is neither 0 nor 1 is one of no known operation
-unfoldable pub toldIn : List ℕ → Operand
-toldIn row = pick (allFlagged row) (operandOf row) (unknownAs (operandOf row))
+-- "field number unknown": the operand of a row with a flag that is neither 0 nor 1 is one of no known operation
+unfoldable pub toldIn : Bool → List ℕ → Operand
+toldIn flags row = pick flags (fieldsIn row) (unknownAs (fieldsIn row))
+
+unfoldable pub operandOf : List ℕ → Operand
+operandOf row = toldIn (flaggedIn row) row
+
+-- ---- the kept instruction: its operand, its form, its trial mark and its widening
+-- the two marks are flags too
+unfoldable pub keptFlagged : List ℕ → Bool
+keptFlagged row = flaggedIn row && (isFlag row 16 && isFlag row 17)
+
+unfoldable pub keptOf : List ℕ → Instruction
+keptOf row =
+    record { operand = toldIn (keptFlagged row) row; form = byteIn row 15; trial = flagIn row 16; widened = flagIn row 17 }
+
+-- ---- the record
+-- a number and its width
+unfoldable pub valueIn : List ℕ → ℕ → Value
+valueIn row at = record { number = getD row at 0; width = byteIn row (at + 1) }
+
+unfoldable pub valuesIn : List ℕ → Values
+valuesIn row = record { given = flagIn row 16; unsigned = valueIn row 17; signed = valueIn row 19 }
+
+-- page dirty and values given are flags too
+unfoldable pub allFlagged : List ℕ → Bool
+allFlagged row = flaggedIn row && (isFlag row 15 && isFlag row 16)
 
 unfoldable pub entryOf : List ℕ → Record
-entryOf row = record { operand = toldIn row; dirty = flagIn row 15; values = valuesIn row }
+entryOf row = record { operand = toldIn (allFlagged row) row; dirty = flagIn row 15; values = valuesIn row }

@@ -11,7 +11,7 @@ ghost use Prim.Native.Nat.{_≤_};
 ghost use lib.Dec.{ltb};
 ghost use lib.ListN.{length};
 ghost use Rattle.ground.specs.Choice.{pick};
-ghost use Rattle.entries.specs.Entries.{nowhere, byteIn, isFlag, flagIn, flaggedIn, cellsOf, registersIn, operandOf, keptOf, valuesIn, allFlagged, toldIn, entryOf};
+ghost use Rattle.entries.specs.Entries.{nowhere, byteIn, isFlag, flagIn, flaggedIn, cellsOf, registersIn, fieldsIn, toldIn, operandOf, keptOf, valuesIn, entryOf};
 
 // No operation, mode, register, step or width has this number, and no list so many registers.
 const NOWHERE: u8 = 255;
@@ -41,13 +41,6 @@ pub fn flag_in(row: &[u16], at: usize) -> bool
     ensures { λ r. ⌜ r ≡ flagIn (now (row .entry)) at ⌝ }
 {
     cell(row, at) == 1
-}
-
-// Each flag of the operand at the front of a row is 0 or 1: another is an unknown number.
-pub fn flagged(row: &[u16]) -> bool
-    ensures { λ r. ⌜ r ≡ flaggedIn (now (row .entry)) ⌝ }
-{
-    is_flag(row, 2) & (is_flag(row, 3) & is_flag(row, 5))
 }
 
 // The cells of a row that may be shorter than a record.
@@ -95,10 +88,10 @@ fn registers_in(row: &[u16]) -> [u8; 8]
     ]
 }
 
-// The operand at the front of a row that is long enough, so that no cell asks for the length.
-fn operand_in(row: &[u16]) -> Operand
+// What the operand's cells hold, in a row that is long enough, so that no cell asks for the length.
+fn fields_in(row: &[u16]) -> Operand
     requires { ⌜ 15 ≤ length (now row) ⌝ }
-    ensures { λ r. ⌜ r ≡ operandOf (now (row .entry)) ⌝ }
+    ensures { λ r. ⌜ r ≡ fieldsIn (now (row .entry)) ⌝ }
 {
     let operation = narrow(row[0]);
     let mode = narrow(row[1]);
@@ -120,6 +113,35 @@ fn operand_in(row: &[u16]) -> Operand
     }
 }
 
+// Each flag of the operand is 0 or 1.
+fn flagged(row: &[u16]) -> bool
+    requires { ⌜ 15 ≤ length (now row) ⌝ }
+    ensures { λ r. ⌜ r ≡ flaggedIn (now (row .entry)) ⌝ }
+{
+    (row[2] <= 1) & ((row[3] <= 1) & (row[5] <= 1))
+}
+
+// The operand, if each flag of its row is one; else it has no known operation.
+fn told(row: &[u16], flags: bool) -> Operand
+    requires { ⌜ 15 ≤ length (now row) ⌝ }
+    ensures { λ r. ⌜ r ≡ toldIn flags (now (row .entry)) ⌝ }
+{
+    let mut operand = fields_in(row);
+    if flags {
+        return operand;
+    }
+    operand.operation = NOWHERE;
+    operand
+}
+
+// The operand at the front of a row that is long enough.
+fn operand_in(row: &[u16]) -> Operand
+    requires { ⌜ 15 ≤ length (now row) ⌝ }
+    ensures { λ r. ⌜ r ≡ operandOf (now (row .entry)) ⌝ }
+{
+    told(row, flagged(row))
+}
+
 // The operand at the front of a row: 15 numbers.
 pub fn operand_of(row: &[u16]) -> Operand
     ensures { λ r. ⌜ r ≡ operandOf (now (row .entry)) ⌝ }
@@ -136,7 +158,8 @@ fn kept_in(row: &[u16]) -> Instruction
     requires { ⌜ 18 ≤ length (now row) ⌝ }
     ensures { λ r. ⌜ r ≡ keptOf (now (row .entry)) ⌝ }
 {
-    let operand = operand_in(row);
+    let flags = flagged(row) & ((row[16] <= 1) & (row[17] <= 1));
+    let operand = told(row, flags);
     let form = narrow(row[15]);
     let trial = row[16] == 1;
     let widened = row[17] == 1;
@@ -178,34 +201,13 @@ fn values_in(row: &[u16]) -> Values
     }
 }
 
-// Each flag of the record is 0 or 1.
-fn all_flagged(row: &[u16]) -> bool
-    requires { ⌜ 21 ≤ length (now row) ⌝ }
-    ensures { λ r. ⌜ r ≡ allFlagged (now (row .entry)) ⌝ }
-{
-    ((row[2] <= 1) & ((row[3] <= 1) & (row[5] <= 1))) & ((row[15] <= 1) & (row[16] <= 1))
-}
-
-// The operand, if each flag of the record is one; else it has no known operation.
-fn told_operand(row: &[u16]) -> Operand
-    requires { ⌜ 21 ≤ length (now row) ⌝ }
-    ensures { λ r. ⌜ r ≡ toldIn (now (row .entry)) ⌝ }
-{
-    let mut operand = operand_in(row);
-    let flags = all_flagged(row);
-    if flags {
-        return operand;
-    }
-    operand.operation = NOWHERE;
-    operand
-}
-
 // The record in a row that is long enough.
 fn entry_in(row: &[u16]) -> Record
     requires { ⌜ 21 ≤ length (now row) ⌝ }
     ensures { λ r. ⌜ r ≡ entryOf (now (row .entry)) ⌝ }
 {
-    let operand = told_operand(row);
+    let flags = flagged(row) & ((row[15] <= 1) & (row[16] <= 1));
+    let operand = told(row, flags);
     let values = values_in(row);
     Record {
         operand,

@@ -24,7 +24,7 @@ use Rattle.instruction.specs.Bytes.{numberBytes, operandBytes, codeSize, behind
 use Rattle.instruction.specs.Building.{noValues, instructionOf, madeAs, makeOf, operandRefusal, earlyOf, dirtiesOf, acceptedOf, finishedOf, buildOf, handed, freshFrom, freshOf}
 use Rattle.statements.specs.declared.Effect.{Effect}
 use Rattle.statements.specs.Order.{placeOf, earlier}
-use Rattle.entries.specs.Entries.{byteIn, isFlag, flagIn, flaggedIn, registersIn, operandOf}
+use Rattle.entries.specs.Entries.{byteIn, isFlag, flagIn, flaggedIn, registersIn, fieldsIn, toldIn, operandOf}
 use Rattle.statements.specs.Listing.{none, numberAt, itemAt, statementOf, statementAt, operandRow, entryIn, entryAt, objectOf}
 use Rattle.statements.specs.Asking.{askedOf, wantedOf, byteOf, wordOf, characterOf, answersFrom}
 use Rattle.statements.specs.Effects.{ownLabel, entryRefusal, builtOf, instructionRefusal, instructionEffect, numberRefusal, reservedEffect, originEffect, dataRefusal, effectAt, countedOf}
@@ -166,5 +166,5 @@ answered =
     ∷ []
 
 pub cases : map ask asked ≡ answered
-unfolding pick bitsOf validOf widenedOf page0 page10 page11 tableOf mergedOf placed hasFormOf knownOf codeOf isWide isLong sizes.numberAt numberSizeOf leastAt smallestSizeOf anyUnknown strangeList bytesOf firstOf joined rowAt labelRow nodeIn labelIn nodeValue labelValue narrowOf valueOf answerOf pairOf evaluation evaluations stepped recognised narrower agreeing lawful sound formOf strays lacks needsValue immediateOf chooseOf numberBytes operandBytes codeSize behindCode laidAt laidOf noValues instructionOf madeAs makeOf operandRefusal earlyOf dirtiesOf acceptedOf finishedOf buildOf handed freshFrom freshOf placeOf earlier numberAt itemAt statementOf statementAt byteIn isFlag flagIn flaggedIn registersIn operandOf operandRow entryIn entryAt askedOf wantedOf byteOf wordOf characterOf answersFrom ownLabel entryRefusal builtOf instructionRefusal instructionEffect numberRefusal reservedEffect originEffect dataRefusal effectAt countedOf valuesAt
+unfolding pick bitsOf validOf widenedOf page0 page10 page11 tableOf mergedOf placed hasFormOf knownOf codeOf isWide isLong sizes.numberAt numberSizeOf leastAt smallestSizeOf anyUnknown strangeList bytesOf firstOf joined rowAt labelRow nodeIn labelIn nodeValue labelValue narrowOf valueOf answerOf pairOf evaluation evaluations stepped recognised narrower agreeing lawful sound formOf strays lacks needsValue immediateOf chooseOf numberBytes operandBytes codeSize behindCode laidAt laidOf noValues instructionOf madeAs makeOf operandRefusal earlyOf dirtiesOf acceptedOf finishedOf buildOf handed freshFrom freshOf placeOf earlier numberAt itemAt statementOf statementAt byteIn isFlag flagIn flaggedIn registersIn fieldsIn toldIn operandOf operandRow entryIn entryAt askedOf wantedOf byteOf wordOf characterOf answersFrom ownLabel entryRefusal builtOf instructionRefusal instructionEffect numberRefusal reservedEffect originEffect dataRefusal effectAt countedOf valuesAt
 cases = refl

@@ -31,7 +31,7 @@ use Rattle.statements.specs.declared.Entry.{Entry}
 use Rattle.statements.specs.declared.Datum.{Datum}
 use Rattle.statements.specs.declared.Datum.the-variants.{Byte, Word, Character}
 use Rattle.statements.specs.declared.Effect.{Effect}
-use Rattle.entries.specs.Entries.{byteIn, operandOf}
+use Rattle.entries.specs.Entries.{byteIn}
 use Rattle.statements.specs.Listing.{none, statementAt, operandRow, entryIn, entryAt, itemsOf, overfullAt, objectOf}
 use Rattle.statements.specs.Asking.{askedOf, wantedOf, answersFrom, rowsIn}
 use Rattle.statements.specs.Effects.{builtOf, instructionRefusal, instructionEffect, numberRefusal, reservedEffect, originEffect, dataRefusal, effectOf, effectAt, countedOf}
@@ -121,7 +121,7 @@ byte-fits row at = by-test (λ (n : ℕ). n < 256) (ltb (getD row at 0) 256) (λ
 
 size-fits :
     (s : Statement) (e : Entry) (items ns ls : List ℕ) → Cells Short ns → Cells Short ls → (here : ℕ) (dirty ill : Bool) → Short here →
-    e .operand .operation < 256 →
+    e .operation < 256 →
     itemsOf s ≤ 256 →
     effectOf s e items ns ls here dirty ill .size < 65536
 unfolding instructionEffect reservedEffect originEffect
@@ -129,7 +129,7 @@ size-fits Label e items ns ls hn hl here dirty ill h o n = omega arith
 size-fits (Instruction node) e items ns ls hn hl here dirty ill h o n =
     let b = builtOf e (askedOf ns ls node here) dirty here in
     let five = built-five e (askedOf ns ls node here) dirty here .most in
-    let least = smallest-fits (e .operand .operation) o in
+    let least = smallest-fits (e .operation) o in
     by-pick (λ (x : Effect). x .size < 65536) (eqb (instructionRefusal e (askedOf ns ls node here) ill b) 0) (omega arith) (omega arith)
 size-fits (Rmb node) e items ns ls hn hl here dirty ill h o n =
     by-pick (λ (x : Effect). x .size < 65536) (eqb (numberRefusal (wantedOf ns ls node here) ill) 0)
@@ -146,7 +146,7 @@ pub sizes-fit :
     (list items ns ls : List ℕ) → Cells Short ns → Cells Short ls → (i here : ℕ) (dirty ill : Bool) → Short here →
     overfullAt list i ≡ false →
     effectAt list items ns ls i here dirty ill .size < 65536
-unfolding effectAt entryAt entryIn operandOf overfullAt
+unfolding effectAt entryAt entryIn overfullAt
 sizes-fit list items ns ls hn hl i here dirty ill h o =
     size-fits (statementAt list i) (entryAt list i) items ns ls hn hl here dirty ill h (byte-fits (operandRow list i) 0)
     (ltb-false 256 (itemsOf (statementAt list i)) o)

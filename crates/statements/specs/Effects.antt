@@ -29,9 +29,9 @@ unfoldable pub ownLabel : Bool → ℕ
 ownLabel ill = pick ill badLabel 0
 
 -- ---- an instruction
--- 1 and 2, which are told before any value is evaluated; a flag that is neither 0 nor 1 is a "field number unknown"
+-- 1 and 2, which are told before any value is evaluated
 unfoldable pub entryRefusal : Entry → ℕ
-entryRefusal e = pick (e .flagged) (operandRefusal (e .operand)) unknown
+entryRefusal e = operandRefusal (e .operand)
 
 -- the operand record: the page flag is the pass's
 abbrev pub recordOf : Entry → Asked → Bool → Record
@@ -53,7 +53,7 @@ unfoldable pub instructionEffect : Entry → ℕ → Built → Effect
 instructionEffect e why b =
     pick (eqb why 0)
     (record { refusal = 0; size = b .length; moves = false; to = 0; dirties = b .dirties })
-    (counts why (smallestSizeOf (e .operand .operation)))
+    (counts why (smallestSizeOf (e .operation)))
 
 -- ---- RMB and ORG
 -- without an operand they are 3, and the 10 of their own label comes before it

@@ -5,7 +5,7 @@ use mathlib.Core.List.{List, []}
 use lib.ListN.{length, getD, drop}
 use lib.Dec.{eqb, ltb}
 use Rattle.ground.specs.Choice.{pick}
-use Rattle.entries.specs.Entries.{flaggedIn, operandOf}
+use Rattle.entries.specs.Entries.{byteIn, operandOf}
 use Rattle.statements.specs.declared.Statement.{Statement}
 use Rattle.statements.specs.declared.Statement.the-variants.{Label, Instruction, Rmb, Fcb, Fdb, Fcc, Org, Unknown}
 use Rattle.statements.specs.declared.Entry.{Entry}
@@ -48,9 +48,9 @@ labelAt list i = numberAt list i 1
 unfoldable pub operandRow : List ℕ → ℕ → List ℕ
 operandRow list i = pick (ltb i (rowsOf list)) (drop (i * 20 + 5) list) []
 
--- the operand as the parser saw it, and whether each of its flags is 0 or 1
+-- the operand as the parser saw it, unknown where a flag is neither 0 nor 1, and the operation's number all the same
 unfoldable pub entryIn : List ℕ → Entry
-entryIn row = record { flagged = flaggedIn row; operand = operandOf row }
+entryIn row = record { operation = byteIn row 0; operand = operandOf row }
 
 unfoldable pub entryAt : List ℕ → ℕ → Entry
 entryAt list i = entryIn (operandRow list i)

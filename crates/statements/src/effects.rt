@@ -47,11 +47,8 @@ fn own_label(ill: bool) -> u8
 fn entry_refusal(entry: Entry) -> u8
     ensures { λ r. ⌜ r ≡ entryRefusal entry ⌝ }
 {
-    if entry.flagged {
-        let operand = entry.operand;
-        return operand.refusal();
-    }
-    UNKNOWN
+    let operand = entry.operand;
+    operand.refusal()
 }
 
 // The fresh build of an instruction. The page is the pass's.
@@ -72,8 +69,7 @@ fn instruction_effect(entry: Entry, refusal: u8, built: Built) -> Effect
     ensures { λ r. ⌜ r ≡ instructionEffect entry refusal built ⌝ }
 {
     if refusal != 0 {
-        let operand = entry.operand;
-        return counts(refusal, smallest_size(operand.operation) as u32);
+        return counts(refusal, smallest_size(entry.operation) as u32);
     }
     Effect {
         refusal: 0,

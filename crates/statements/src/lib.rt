@@ -21,9 +21,9 @@ pub enum Statement {
     Unknown,
 }
 
-// The operand of an instruction's row, and whether each of its flags is 0 or 1.
+// The operand of an instruction's row, of no known operation where a flag is neither 0 nor 1; and the number in the row, whose smallest size counts even then.
 pub struct Entry {
-    pub flagged: bool,
+    pub operation: u8,
     pub operand: Operand,
 }
 

@@ -1,7 +1,7 @@
 // A lent list of statements, 20 numbers to a row, and the lent items.
 use crate::Entry;
 use crate::Statement;
-use entries::flagged;
+use entries::byte_in;
 use entries::operand_of;
 use ground::tables::cell;
 ghost use mathlib.Core.Path.{_≡_};
@@ -94,12 +94,12 @@ fn entry(row: &[u16]) -> Entry
 {
     let operand = operand_of(row);
     Entry {
-        flagged: flagged(row),
+        operation: byte_in(row, 0),
         operand,
     }
 }
 
-// The operand of row i, with whether each of its flags is 0 or 1.
+// The operand of row i, and the number of its operation.
 pub fn operand_at(list: &[u16], i: usize) -> Entry
     ensures { λ r. ⌜ r ≡ entryAt (now (list .entry)) i ⌝ }
 {

@@ -1,22 +1,24 @@
 -- `entries::flagged` meets its contract.
 -- Assumes nothing.
-use Rattle.entries.specs.Entries.{flaggedIn}
+use mathlib.Core.Path.{refl}
 use borrow.Author.Needs.{needs}
+use Rattle.entries.specs.Entries.{isFlag, flaggedIn}
 use Rattle.entries.proofs.flagged.Statement.{statement}
 use Rattle.entries.proofs.flagged.Tie as tie
 
-is-flag-requires : tie.Need-is-flag-requires
-is-flag-requires c κs = search needs
+shared-slice-read-result : tie.Need-shared-slice-read-result
+shared-slice-read-result c = search needs
 
-is-flag-requires-2 : tie.Need-is-flag-requires-2
-is-flag-requires-2 c κs = search needs
+shared-slice-read-result-2 : tie.Need-shared-slice-read-result-2
+shared-slice-read-result-2 c = search needs
 
-is-flag-requires-3 : tie.Need-is-flag-requires-3
-is-flag-requires-3 c κs = search needs
+shared-slice-read-result-3 : tie.Need-shared-slice-read-result-3
+shared-slice-read-result-3 c = search needs
 
 returns : tie.Need-returns
-unfolding flaggedIn
-returns c = cc
+unfolding flaggedIn isFlag
+returns c = refl
 
 pub flagged-spec : {M : Type 1} → statement M
-flagged-spec = tie.close (tie.spec is-flag-requires is-flag-requires-2 is-flag-requires-3 returns)
+flagged-spec =
+    tie.close (tie.spec shared-slice-read-result shared-slice-read-result-2 shared-slice-read-result-3 returns)

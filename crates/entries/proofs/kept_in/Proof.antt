@@ -1,12 +1,21 @@
 -- `entries::kept_in` meets its contract.
 -- Assumes nothing.
 use borrow.Author.Needs.{needs}
-use Rattle.entries.specs.Entries.{byteIn, flagIn, keptOf}
+use Rattle.entries.specs.Entries.{byteIn, isFlag, flagIn, keptFlagged, keptOf}
 use Rattle.entries.proofs.kept_in.Statement.{statement}
 use Rattle.entries.proofs.kept_in.Tie as tie
 
-operand-in-requires : tie.Need-operand-in-requires
-operand-in-requires c κs = search needs
+flagged-requires : tie.Need-flagged-requires
+flagged-requires c κs = search needs
+
+shared-slice-read-flags : tie.Need-shared-slice-read-flags
+shared-slice-read-flags c = search needs
+
+shared-slice-read-flags-2 : tie.Need-shared-slice-read-flags-2
+shared-slice-read-flags-2 c = search needs
+
+told-requires : tie.Need-told-requires
+told-requires c κs = search needs
 
 shared-slice-read-narrow : tie.Need-shared-slice-read-narrow
 shared-slice-read-narrow c = search needs
@@ -21,14 +30,22 @@ shared-slice-read-widened : tie.Need-shared-slice-read-widened
 shared-slice-read-widened c = search needs
 
 returns : tie.Need-returns
-unfolding keptOf flagIn byteIn
-returns c = rw (c .before .before .before .before .operand-in .ensures, c .before .before .narrow .ensures)
+unfolding keptOf keptFlagged isFlag flagIn byteIn
+returns c =
+    rw (
+      c .before .before .before .before .told .ensures,
+      c .before .before .before .before .before .before .before .flagged .ensures,
+      c .before .before .narrow .ensures,
+    )
 
 pub kept-in-spec : {M : Type 1} → statement M
 kept-in-spec =
     tie.close
     (tie.spec
-    operand-in-requires
+    flagged-requires
+    shared-slice-read-flags
+    shared-slice-read-flags-2
+    told-requires
     shared-slice-read-narrow
     narrow-requires
     shared-slice-read-trial

@@ -8,12 +8,12 @@ use Rattle.statements.proofs.listing.entry.Tie as tie
 operand-of-requires : tie.Need-operand-of-requires
 operand-of-requires c κs = search needs
 
-flagged-requires : tie.Need-flagged-requires
-flagged-requires c κs = search needs
+byte-in-requires : tie.Need-byte-in-requires
+byte-in-requires c κs = search needs
 
 returns : tie.Need-returns
 unfolding entryIn
 returns c = cc
 
 pub entry-spec : {M : Type 1} → statement M
-entry-spec = tie.close (tie.spec operand-of-requires flagged-requires returns)
+entry-spec = tie.close (tie.spec operand-of-requires byte-in-requires returns)
