@@ -18,7 +18,7 @@ use Rattle.instruction.specs.Forms.{onPage, becomesDirect, extendedForm, regist
 use Rattle.instruction.specs.Choosing.{inherentOf, addressOf, longBranch, branchOf, accumulatorIndex, offsetValue, offsetIndex, targetIndex, stepIndex, indexOf, chooseOf}
 use Rattle.instruction.specs.Bytes.{numberBytes, operandBytes, codeSize, behindCode, laidAt, laidOf}
 use Rattle.instruction.specs.Building.{instructionOf, madeAs, makeOf, earlyOf, dirtiesOf, acceptedOf, finishedOf, buildOf, handed, freshFrom, freshOf}
-use Rattle.entries.specs.Entries.{byteIn, isFlag, flagIn, flaggedIn, registersIn, operandOf, valueIn, valuesIn, allFlagged, toldIn, entryOf}
+use Rattle.entries.specs.Entries.{byteIn, isFlag, flagIn, flaggedIn, registersIn, fieldsIn, toldIn, valueIn, valuesIn, allFlagged, entryOf}
 use Rattle.laying.specs.Entries.{entryAt, rowsIn, entriesFrom, entriesOf}
 use Rattle.laying.specs.Laying.{Outcome, Refused, Bytes, builtAt, refusalAt, layFrom, layOf}
 
@@ -171,5 +171,5 @@ answered =
     ∷ []
 
 pub cases : map ask asked ≡ answered
-unfolding pick bitsOf extended validOf signExtendedOf tableOf page0 page10 page11 mergedOf placed hasFormOf knownOf codeOf isWide isLong numberAt numberSizeOf longFrom longOf anyUnknown strangeList among marked sizedOf constantOf offsetOf relativeOf stepped recognised narrower agreeing lawful sound onPage becomesDirect extendedForm registerForm formOf strays lacks needsValue inherentOf addressOf longBranch branchOf accumulatorIndex offsetValue offsetIndex targetIndex stepIndex indexOf chooseOf numberBytes operandBytes codeSize behindCode laidAt laidOf instructionOf madeAs makeOf earlyOf dirtiesOf acceptedOf finishedOf buildOf handed freshFrom freshOf byteIn isFlag flagIn flaggedIn registersIn operandOf valueIn valuesIn allFlagged toldIn entryOf entryAt rowsIn entriesFrom entriesOf builtAt refusalAt layFrom layOf
+unfolding pick bitsOf extended validOf signExtendedOf tableOf page0 page10 page11 mergedOf placed hasFormOf knownOf codeOf isWide isLong numberAt numberSizeOf longFrom longOf anyUnknown strangeList among marked sizedOf constantOf offsetOf relativeOf stepped recognised narrower agreeing lawful sound onPage becomesDirect extendedForm registerForm formOf strays lacks needsValue inherentOf addressOf longBranch branchOf accumulatorIndex offsetValue offsetIndex targetIndex stepIndex indexOf chooseOf numberBytes operandBytes codeSize behindCode laidAt laidOf instructionOf madeAs makeOf earlyOf dirtiesOf acceptedOf finishedOf buildOf handed freshFrom freshOf byteIn isFlag flagIn flaggedIn registersIn fieldsIn toldIn valueIn valuesIn allFlagged entryOf entryAt rowsIn entriesFrom entriesOf builtAt refusalAt layFrom layOf
 cases = refl

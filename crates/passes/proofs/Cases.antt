@@ -21,7 +21,7 @@ use Rattle.instruction.specs.Choosing.{longBranch, branchOf, chooseOf}
 use Rattle.instruction.specs.Bytes.{numberBytes, operandBytes, codeSize, behindCode, laidAt, laidOf}
 use Rattle.instruction.specs.Building.{instructionOf, madeAs, makeOf, operandRefusal, earlyOf, dirtiesOf, acceptedOf, finishedOf, buildOf, handed, freshFrom, freshOf}
 use Rattle.statements.specs.Order.{placeOf, earlier}
-use Rattle.entries.specs.Entries.{byteIn, isFlag, flagIn, flaggedIn, registersIn, operandOf}
+use Rattle.entries.specs.Entries.{byteIn, isFlag, flagIn, flaggedIn, registersIn, fieldsIn, toldIn, operandOf}
 use Rattle.statements.specs.Listing.{none, numberAt, statementOf, statementAt, operandRow, entryIn, entryAt, overfullAt}
 use Rattle.statements.specs.Asking.{askedOf, wantedOf}
 use Rattle.statements.specs.Effects.{ownLabel, entryRefusal, builtOf, instructionRefusal, instructionEffect, numberRefusal, reservedEffect, originEffect, effectAt, countedOf}
@@ -102,12 +102,12 @@ answered =
     ∷ []
 
 pub cases : map ask asked ≡ answered
-unfolding pick bitsOf validOf tableOf page0 page10 page11 mergedOf placed hasFormOf knownOf codeOf isWide isLong sizes.numberAt numberSizeOf longFrom longOf anyUnknown strangeList holdsOf inserted refusalOf addedTo tableAfter firstOf joined rowAt labelRow nodeIn labelIn nodeValue labelValue narrowOf valueOf answerOf pairOf evaluation evaluations stepped recognised narrower agreeing lawful sound onPage becomesDirect extendedForm formOf strays lacks needsValue longBranch branchOf chooseOf numberBytes operandBytes codeSize behindCode laidAt laidOf instructionOf madeAs makeOf operandRefusal earlyOf dirtiesOf acceptedOf finishedOf buildOf handed freshFrom freshOf placeOf earlier numberAt statementOf statementAt byteIn isFlag flagIn flaggedIn registersIn operandOf operandRow entryIn entryAt overfullAt askedOf wantedOf ownLabel entryRefusal builtOf instructionRefusal instructionEffect numberRefusal reservedEffect originEffect effectAt countedOf firstBearer bearerOf illOf begunState begunRows begunTable marksOf markedLabels markedState effectIn sizedState firstRefusal judged originState advancedState advancedStarts markOf resizeOf advanceOf doneOf stepOf walkOf walkTo passes.answerOf afterOf settleOf passedOf overfullIn tooMany endedOf settledOf
+unfolding pick bitsOf validOf tableOf page0 page10 page11 mergedOf placed hasFormOf knownOf codeOf isWide isLong sizes.numberAt numberSizeOf longFrom longOf anyUnknown strangeList holdsOf inserted refusalOf addedTo tableAfter firstOf joined rowAt labelRow nodeIn labelIn nodeValue labelValue narrowOf valueOf answerOf pairOf evaluation evaluations stepped recognised narrower agreeing lawful sound onPage becomesDirect extendedForm formOf strays lacks needsValue longBranch branchOf chooseOf numberBytes operandBytes codeSize behindCode laidAt laidOf instructionOf madeAs makeOf operandRefusal earlyOf dirtiesOf acceptedOf finishedOf buildOf handed freshFrom freshOf placeOf earlier numberAt statementOf statementAt byteIn isFlag flagIn flaggedIn registersIn fieldsIn toldIn operandOf operandRow entryIn entryAt overfullAt askedOf wantedOf ownLabel entryRefusal builtOf instructionRefusal instructionEffect numberRefusal reservedEffect originEffect effectAt countedOf firstBearer bearerOf illOf begunState begunRows begunTable marksOf markedLabels markedState effectIn sizedState firstRefusal judged originState advancedState advancedStarts markOf resizeOf advanceOf doneOf stepOf walkOf walkTo passes.answerOf afterOf settleOf passedOf overfullIn tooMany endedOf settledOf
 cases = refl
 
 -- the lent table after the branch, and after a refusal
 pub tables :
     map (λ (list : List ℕ). labelsAfter (source list [] nodes) labels) ((bra 1 ++ rmb 0 ++ here) ∷ (here ++ here) ∷ [])
     ≡ (1 ∷ 203 ∷ 0 ∷ 2 ∷ 0 ∷ 7 ∷ 2 ∷ 0 ∷ 0 ∷ []) ∷ labels ∷ []
-unfolding pick bitsOf validOf tableOf page0 page10 page11 mergedOf placed hasFormOf knownOf codeOf isWide isLong sizes.numberAt numberSizeOf longFrom longOf anyUnknown strangeList holdsOf inserted refusalOf addedTo tableAfter firstOf joined rowAt labelRow nodeIn labelIn nodeValue labelValue narrowOf valueOf answerOf pairOf evaluation evaluations stepped recognised narrower agreeing lawful sound onPage becomesDirect extendedForm formOf strays lacks needsValue longBranch branchOf chooseOf numberBytes operandBytes codeSize behindCode laidAt laidOf instructionOf madeAs makeOf operandRefusal earlyOf dirtiesOf acceptedOf finishedOf buildOf handed freshFrom freshOf placeOf earlier numberAt statementOf statementAt byteIn isFlag flagIn flaggedIn registersIn operandOf operandRow entryIn entryAt overfullAt askedOf wantedOf ownLabel entryRefusal builtOf instructionRefusal instructionEffect numberRefusal reservedEffect originEffect effectAt countedOf firstBearer bearerOf illOf begunState begunRows begunTable marksOf markedLabels markedState effectIn sizedState firstRefusal judged originState advancedState advancedStarts markOf resizeOf advanceOf doneOf stepOf walkOf walkTo passes.answerOf afterOf settleOf passedOf overfullIn tooMany endedOf settledOf laidOver labelsAfter
+unfolding pick bitsOf validOf tableOf page0 page10 page11 mergedOf placed hasFormOf knownOf codeOf isWide isLong sizes.numberAt numberSizeOf longFrom longOf anyUnknown strangeList holdsOf inserted refusalOf addedTo tableAfter firstOf joined rowAt labelRow nodeIn labelIn nodeValue labelValue narrowOf valueOf answerOf pairOf evaluation evaluations stepped recognised narrower agreeing lawful sound onPage becomesDirect extendedForm formOf strays lacks needsValue longBranch branchOf chooseOf numberBytes operandBytes codeSize behindCode laidAt laidOf instructionOf madeAs makeOf operandRefusal earlyOf dirtiesOf acceptedOf finishedOf buildOf handed freshFrom freshOf placeOf earlier numberAt statementOf statementAt byteIn isFlag flagIn flaggedIn registersIn fieldsIn toldIn operandOf operandRow entryIn entryAt overfullAt askedOf wantedOf ownLabel entryRefusal builtOf instructionRefusal instructionEffect numberRefusal reservedEffect originEffect effectAt countedOf firstBearer bearerOf illOf begunState begunRows begunTable marksOf markedLabels markedState effectIn sizedState firstRefusal judged originState advancedState advancedStarts markOf resizeOf advanceOf doneOf stepOf walkOf walkTo passes.answerOf afterOf settleOf passedOf overfullIn tooMany endedOf settledOf laidOver labelsAfter
 tables = refl

@@ -19,8 +19,7 @@ use Rattle.instruction.specs.Choosing.{inherentOf, accumulatorIndex, offsetValu
 use Rattle.instruction.specs.Bytes.{numberBytes, operandBytes, codeSize, behindCode, laidAt, laidOf}
 use Rattle.instruction.specs.Building.{instructionOf, madeAs, makeOf, earlyOf, dirtiesOf, acceptedOf, finishedOf, buildOf, handed, freshFrom, freshOf}
 use Rattle.meanings.specs.Means.{offsetIn, offsetKind, indexKind, kindOf, operationOf, meaningOf}
-use Rattle.entries.specs.Entries as entries
-use Rattle.entries.specs.Entries.{byteIn, isFlag, flagIn, flaggedIn, registersIn, valueIn, valuesIn, allFlagged, toldIn, entryOf}
+use Rattle.entries.specs.Entries.{byteIn, isFlag, flagIn, flaggedIn, registersIn, fieldsIn, toldIn, valueIn, valuesIn, allFlagged, entryOf}
 use Rattle.laying.specs.Entries.{entryAt, rowsIn, entriesFrom, entriesOf}
 use Rattle.laying.specs.Laying.{builtAt, refusalAt, layFrom, layOf}
 use Rattle.laying.specs.Meant.{meaningsFrom}
@@ -103,5 +102,5 @@ answered =
     ∷ []
 
 pub cases : map ask asked ≡ answered
-unfolding pick bitsOf extended validOf signExtendedOf tableOf page0 page10 page11 mergedOf placed hasFormOf knownOf codeOf rowOf isWide isLong numberAt numberSizeOf anyUnknown strangeList directOnly counterOnly addressOnly highOf shapeOf marked constantOf offsetOf stepped recognised narrower agreeing lawful sound registerForm formOf strays lacks needsValue inherentOf accumulatorIndex offsetValue offsetIndex indexOf chooseOf numberBytes operandBytes codeSize behindCode laidAt laidOf instructionOf madeAs makeOf earlyOf dirtiesOf acceptedOf finishedOf buildOf handed freshFrom freshOf offsetIn offsetKind indexKind kindOf operationOf meaningOf byteIn isFlag flagIn flaggedIn registersIn entries.operandOf valueIn valuesIn allFlagged toldIn entryOf entryAt rowsIn entriesFrom entriesOf builtAt refusalAt layFrom layOf meaningsFrom hexOf checkOf body line digitOf pairOf behind countOf lines.addressOf lines.sound typeOf dataOf endsLine afterEnd recordOf lineIn recordsIn runsIn shifted outside joined numberOf numberedOf numberedAt indexedAs indexedAt operandOf codedOf frontOf runFrom runOf sameParts sameMeaning same textAgainst compareOf
+unfolding pick bitsOf extended validOf signExtendedOf tableOf page0 page10 page11 mergedOf placed hasFormOf knownOf codeOf rowOf isWide isLong numberAt numberSizeOf anyUnknown strangeList directOnly counterOnly addressOnly highOf shapeOf marked constantOf offsetOf stepped recognised narrower agreeing lawful sound registerForm formOf strays lacks needsValue inherentOf accumulatorIndex offsetValue offsetIndex indexOf chooseOf numberBytes operandBytes codeSize behindCode laidAt laidOf instructionOf madeAs makeOf earlyOf dirtiesOf acceptedOf finishedOf buildOf handed freshFrom freshOf offsetIn offsetKind indexKind kindOf operationOf meaningOf byteIn isFlag flagIn flaggedIn registersIn fieldsIn toldIn valueIn valuesIn allFlagged entryOf entryAt rowsIn entriesFrom entriesOf builtAt refusalAt layFrom layOf meaningsFrom hexOf checkOf body line digitOf pairOf behind countOf lines.addressOf lines.sound typeOf dataOf endsLine afterEnd recordOf lineIn recordsIn runsIn shifted outside joined numberOf numberedOf numberedAt indexedAs indexedAt operandOf codedOf frontOf runFrom runOf sameParts sameMeaning same textAgainst compareOf
 cases = refl
