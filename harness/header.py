@@ -7,7 +7,7 @@ import re
 import sys
 
 ROOT = os.path.join(os.path.dirname(os.path.abspath(__file__)), "..")
-TYPES = {"u8": "uint8_t", "u16": "uint16_t", "usize": "size_t"}
+TYPES = {"u8": "uint8_t", "u16": "uint16_t", "u32": "uint32_t", "usize": "size_t", "": "void"}
 differing = []
 
 
@@ -34,7 +34,7 @@ def exported():
         with open(path) as file:
             text = file.read()
         for name, parameters, back in re.findall(r'#\[no_mangle\]\npub extern "C" fn (\w+)\(([^)]*)\)(?: -> (\w+))?', text):
-            found[name] = (TYPES.get(back, "void"), list(c_types(parameters)))
+            found[name] = (TYPES[back], list(c_types(parameters)))
     return found
 
 
@@ -55,7 +55,7 @@ def bound():
             kind = parameter.split(": ")[1]
             pointer = re.fullmatch(r"\*(const|mut) (\w+)", kind)
             kinds.append(("const " if pointer.group(1) == "const" else "") + TYPES[pointer.group(2)] + " *" if pointer else TYPES[kind])
-        found[name] = (TYPES.get(result, "void"), kinds)
+        found[name] = (TYPES[result], kinds)
     return found
 
 

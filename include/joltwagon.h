@@ -3,10 +3,12 @@
  * Link target/staticlib/libjoltwagon.a, which `rt staticlib joltwagon` writes (x86-64). The library keeps no state, allocates
  * nothing and calls nothing, so every function may be called from any thread.
  *
- * A call returns its refusal, one of enum jw_refusal, 0 for none. What else it has to say goes into a lent slice of
- * 16-bit cells, the answer. A refusal leaves everything that was lent as it was. A slice that is read and is shorter than its
- * layout is JW_UNKNOWN; an answer that is shorter than its layout is JW_NO_ROOM, after every other refusal. A longer slice is
- * fine: what lies beyond the layout is not looked at and not changed.
+ * A call returns its refusal, one of enum jw_refusal, 0 for none; jw_settle and jw_hex return the number of passes above it, so
+ * that theirs is JW_REFUSAL(returned), and `returned` itself is not 0 where they succeed. What else a call has to say goes into a
+ * lent slice of 16-bit cells, the answer. A refusal leaves everything that was lent as it was. An answer that is shorter than its
+ * layout is JW_NO_ROOM, after every other refusal. Where one row is lent (jw_make, jw_assemble, jw_build), a slice shorter than
+ * its layout is JW_UNKNOWN; so is a table of segments without its first cell. In every other table what is left over at its end
+ * is no row. A longer slice is fine: what lies beyond the layout is not looked at and not changed.
  *
  * What the caller owes, since nothing in C can check it: each pointer is valid, aligned and not null, also where the length is
  * 0; each length is how many elements there are (elements, not bytes); and a slice that is written (not const) overlaps no other
@@ -141,7 +143,7 @@ enum {
     JW_STEP = 4,
     JW_WIDENING = 5,
     JW_REGISTER_COUNT = 6,
-    JW_REGISTERS = 7, /* eight cells */
+    JW_REGISTERS = 7, /* eight cells; one beyond the count is not looked at, and is handed back in a kept row, as 255 where it is above */
     JW_OPERAND_CELLS = 15,
     JW_RECORD_PRESENT = 15, /* a present row, so that `record + JW_RECORD_PRESENT` can be lent as one */
     JW_RECORD_CELLS = 21
@@ -163,7 +165,7 @@ enum { JW_FORM = 15, JW_TRIAL = 16, JW_WIDENED = 17, JW_KEPT_CELLS = 18 };
 enum {
     JW_BUILT_LENGTH = 0,
     JW_BUILT_BYTES = 1, /* five cells, 0 beyond the length */
-    JW_BUILT_DIRTIES = 6,
+    JW_BUILT_DIRTIES = 6, /* this instruction dirties the page, which is dirty after it if it was before, too: `dirty |= ..` */
     JW_BUILT_KEPT = 7, /* a kept instruction */
     JW_BUILT_CELLS = 25
 };
@@ -185,10 +187,11 @@ enum {
 /* The answers of jw_node (both values), jw_label, jw_segment_of (first and last address) and jw_read_text (two sizes). */
 enum { JW_NODE_CELLS = 4, JW_LABEL_CELLS = 2, JW_SEGMENT_CELLS = 2, JW_TEXT_CELLS = 8 };
 
-/* Lent tables. */
+/* Lent tables. An object that counts more values than are left is JW_UNKNOWN. */
 enum { JW_NODE_ROW = 3, JW_LABEL_ROW = 3, JW_OBJECT_ROW = 3, JW_VALUE_ROW = 2, JW_RUN_ROW = 2 };
 
-/* A table of segments: the number of starts, then the starts. 64 cells hold as many as there may be. */
+/* A table of segments: the number of starts, then the starts. 64 cells hold as many as there may be. Where starts are looked for, a number
+ * beyond the table means the whole table. */
 enum { JW_SEGMENTS_CELLS = 64 };
 
 /* A statement. Its items stand in a table of their own: node numbers for FCB and FDB (JW_NONE is a hole), characters for FCC. */
@@ -263,7 +266,8 @@ void jw_move_labels(uint16_t *labels, size_t labels_len, uint16_t left, uint16_t
 
 /* ---- segments ---- */
 
-/* Adds a start. 0 again is free. */
+/* Adds a start. 0 again is free. JW_OVER_LIMIT goes by the number of starts that the table says, though it be beyond the table: adding 7
+ * to {100, 5} is JW_OVER_LIMIT, to {50, 5} it is JW_NO_ROOM. */
 uint8_t jw_add_segment(uint16_t *segments, size_t segments_len, uint16_t start);
 
 /* The first and the last address of the segment that an address lies in. */
@@ -286,18 +290,27 @@ uint8_t jw_read_text(const uint8_t *text, size_t text_len, uint8_t *bytes, size_
 
 /* ---- statements ---- */
 
-/* What jw_settle and jw_hex return: the refusal, and the number of passes made, which is said beside a refusal, too. */
-#define JW_REFUSAL(returned) ((returned) & 0xFF)
-#define JW_PASSES(returned) ((returned) >> 8)
+/* What jw_settle and jw_hex return: the refusal in the low 16 bits, and in the high 16 the number of passes made, which is said beside
+ * a refusal, too. A success has made a pass, so `if (jw_hex(..))` is no test; this is:
+ *
+ *     uint32_t returned = jw_hex(..);
+ *     if (JW_REFUSAL(returned) != JW_ACCEPTED)
+ *         return JW_REFUSAL(returned);
+ */
+#define JW_REFUSAL(returned) ((returned) & 0xFFFF)
+#define JW_PASSES(returned) ((returned) >> 16)
 
 /* Makes passes over a list of statements until one changes no label address and no size: the label table gets the addresses. At most 1,024
- * statements, 512 labels and 64 passes. The call needs some 12 KB of stack. */
-uint16_t jw_settle(const uint16_t *list, size_t list_len, const uint16_t *items, size_t items_len, const uint16_t *nodes,
+ * statements, 512 labels and 64 passes. The table must have the row of every label that a statement bears, else JW_NO_ROOM. A row that
+ * no statement bears gets the address 0, and is undefined unless it has an expression: {1, 1234, 9} becomes {0, 0, 9}. Returns
+ * the refusal and the passes (JW_REFUSAL, JW_PASSES). The call needs STACK_SETTLE of stack. */
+uint32_t jw_settle(const uint16_t *list, size_t list_len, const uint16_t *items, size_t items_len, const uint16_t *nodes,
                    size_t nodes_len, uint16_t *labels, size_t labels_len);
 
-/* From a list of statements to the text of its settled pass: the label table gets the addresses, the object and value tables what jw_write_text
- * takes, the front of `out` the text, and the answer is its length, a size. */
-uint16_t jw_hex(const uint16_t *list, size_t list_len, const uint16_t *items, size_t items_len, const uint16_t *nodes,
+/* From a list of statements to the text of its settled pass: the label table gets the addresses as from jw_settle, the object and value tables
+ * what jw_write_text takes, the front of `out` the text, and the answer is its length, a size. Returns the refusal and the passes
+ * (JW_REFUSAL, JW_PASSES). The call needs STACK_HEX of stack. */
+uint32_t jw_hex(const uint16_t *list, size_t list_len, const uint16_t *items, size_t items_len, const uint16_t *nodes,
                 size_t nodes_len, uint16_t *labels, size_t labels_len, uint16_t *objects, size_t objects_len, uint16_t *values,
                 size_t values_len, uint8_t *out, size_t out_len, uint16_t *answer, size_t answer_len);
 

@@ -130,10 +130,15 @@ static void kept(void)
 {
     uint16_t r[JW_RECORD_CELLS], row[JW_KEPT_CELLS], answer[JW_BUILT_CELLS];
     uint16_t *now = r + JW_RECORD_PRESENT;
+    const size_t flags[] = {JW_INDIRECT, JW_FORCED, JW_WIDENING, JW_TRIAL, JW_WIDENED};
     record_of(r, JW_LDA, JW_MODE_EXTENDED, -1, 0x20, 16);
+    r[JW_REGISTERS] = 255;
+    r[JW_REGISTERS + 1] = 256;
     same("make", jw_make(r, JW_RECORD_CELLS, row, JW_KEPT_CELLS), JW_ACCEPTED);
     same("made Direct", row[JW_FORM], JW_FORM_DIRECT);
     same("made on trial", row[JW_TRIAL], 1);
+    same("a register beyond the count", row[JW_REGISTERS], 255);
+    same("one above 255", row[JW_REGISTERS + 1], 255);
     now[JW_UNSIGNED] = now[JW_SIGNED] = 0x1234;
     same("build", jw_build(row, JW_KEPT_CELLS, now, JW_PRESENT_CELLS, 0, answer, JW_BUILT_CELLS), JW_ACCEPTED);
     same("built Extended", answer[JW_BUILT_BYTES], 0xB6);
@@ -149,6 +154,16 @@ static void kept(void)
     same("no trial left", jw_build(row, JW_KEPT_CELLS, now, JW_PRESENT_CELLS, 0, answer, JW_BUILT_CELLS), JW_DIRECT_NOT_ALLOWED);
     same("a short row", jw_build(row, JW_KEPT_CELLS - 1, now, JW_PRESENT_CELLS, 0, answer, JW_BUILT_CELLS), JW_UNKNOWN);
     same("short values", jw_build(row, JW_KEPT_CELLS, now, JW_PRESENT_CELLS - 1, 0, answer, JW_BUILT_CELLS), JW_UNKNOWN);
+    for (size_t i = 0; i < sizeof flags / sizeof *flags; i++) {
+        row[flags[i]] += 2;
+        same("a flag of 2 or 3", jw_build(row, JW_KEPT_CELLS, now, JW_PRESENT_CELLS, 0, answer, 0), JW_UNKNOWN);
+        row[flags[i]] -= 2;
+    }
+    now[JW_VALUES_GIVEN] = 2;
+    same("values given twice", jw_build(row, JW_KEPT_CELLS, now, JW_PRESENT_CELLS, 0, answer, JW_BUILT_CELLS), JW_UNKNOWN);
+    now[JW_VALUES_GIVEN] = 1;
+    now[JW_PAGE_DIRTY] = 2;
+    same("a page twice dirty", jw_build(row, JW_KEPT_CELLS, now, JW_PRESENT_CELLS, 0, answer, JW_BUILT_CELLS), JW_UNKNOWN);
     untouched("refused builds", answer, JW_BUILT_CELLS);
     same("a short answer", jw_make(r, JW_RECORD_CELLS, answer, JW_KEPT_CELLS - 1), JW_NO_ROOM);
     untouched("a short answer", answer, JW_BUILT_CELLS);
@@ -242,6 +257,14 @@ static void segments(void)
     same("no table", jw_segment_of(table, 0, 0, answer, JW_SEGMENT_CELLS), JW_UNKNOWN);
     same("no room", jw_segment_of(table, JW_SEGMENTS_CELLS, 0, answer, 1), JW_NO_ROOM);
     untouched("refused segments", answer, JW_SEGMENT_CELLS);
+    /* A count beyond the table: the starts are the whole table, and 17 goes by the count. */
+    uint16_t many[] = {100, 5}, some[] = {50, 5};
+    same("100 starts counted", jw_add_segment(many, 2, 7), JW_OVER_LIMIT);
+    same("50 starts counted", jw_add_segment(some, 2, 7), JW_NO_ROOM);
+    same("the one that is there", jw_add_segment(many, 2, 5), JW_SEGMENT_REPEATED);
+    same("its segment", jw_segment_of(many, 2, 7, answer, JW_SEGMENT_CELLS), JW_ACCEPTED);
+    same("from 5", answer[0], 5);
+    same("to the end", answer[1], 0xFFFF);
 }
 
 static void texts(void)
@@ -278,6 +301,9 @@ static void texts(void)
     same("last", runs[1], 0x102);
 }
 
+/* The passes stand above the refusal. */
+enum { TWO_PASSES = 2 << 16 };
+
 /* LDA label; label RMB 4; FCC "ab": the label is 2 once LDA is Direct. */
 static void settling(void)
 {
@@ -295,7 +321,7 @@ static void settling(void)
     fcc[JW_STATEMENT_KIND] = JW_FCC;
     fcc[JW_STATEMENT_NODE] = JW_NONE;
     fcc[JW_STATEMENT_COUNT] = 2;
-    uint16_t returned = jw_settle(list, 3 * JW_STATEMENT_CELLS, items, 2, nodes, 6, labels, JW_LABEL_ROW);
+    uint32_t returned = jw_settle(list, 3 * JW_STATEMENT_CELLS, items, 2, nodes, 6, labels, JW_LABEL_ROW);
     same("settle", JW_REFUSAL(returned), JW_ACCEPTED);
     same("two passes", JW_PASSES(returned), 2);
     const uint16_t found[] = {1, 2, 0};
@@ -310,20 +336,20 @@ static void settling(void)
     fill(answer, JW_SIZE_CELLS);
     memset(out, 'x', sizeof out);
     returned = jw_hex(list, 60, items, 2, nodes, 6, labels, 3, objects, 9, values, 8, out, n - 1, answer, JW_SIZE_CELLS);
-    same("no room for the text", returned, JW_NO_ROOM + 2 * 256);
+    same("no room for the text", returned, JW_NO_ROOM | TWO_PASSES);
     returned = jw_hex(list, 60, items, 2, nodes, 6, labels, 3, objects, 9, values, 7, out, n, answer, JW_SIZE_CELLS);
-    same("no room for values", returned, JW_NO_ROOM + 2 * 256);
+    same("no room for values", returned, JW_NO_ROOM | TWO_PASSES);
     returned = jw_hex(list, 60, items, 2, nodes, 6, labels, 3, objects, 9, values, 8, out, n, answer, JW_SIZE_CELLS - 1);
-    same("no cells", returned, JW_NO_ROOM + 2 * 256);
+    same("no cells", returned, JW_NO_ROOM | TWO_PASSES);
     returned = jw_hex(list, 60, items, 1, nodes, 6, labels, 3, objects, 9, values, 8, out, n, answer, 0);
-    same("an unknown character before no cells", returned, JW_UNKNOWN + 2 * 256);
+    same("an unknown character before no cells", returned, JW_UNKNOWN | TWO_PASSES);
     untouched("refused: objects", objects, 9);
     untouched("refused: values", values, 8);
     untouched("refused: answer", answer, JW_SIZE_CELLS);
     same("refused: the label", labels[1], 0x55);
     same("refused: the text", out[0], 'x');
     returned = jw_hex(list, 60, items, 2, nodes, 6, labels, 3, objects, 9, values, 8, out, sizeof out, answer, JW_SIZE_CELLS);
-    same("hex", returned, JW_ACCEPTED + 2 * 256);
+    same("hex", returned, JW_ACCEPTED | TWO_PASSES);
     same("its length", (long)jw_size(answer), (long)n);
     same_bytes("its text", out, wanted, n);
     same("what follows", out[n], 'x');
@@ -343,6 +369,46 @@ static void settling(void)
     same("the label as it was", labels[1], 0x55);
 }
 
+/* Settling finds every label's row anew: what no statement bears is undefined unless it has an expression, and its address is 0. */
+static void stale_labels(void)
+{
+    uint16_t labels[] = {1, 1234, 9, 2, 1234, 9, 1, 1234};
+    const uint16_t none[] = {0}, after[] = {0, 0, 9, 2, 0, 9, 1, 1234};
+    uint32_t returned = jw_settle(none, 0, none, 0, none, 0, labels, 8);
+    same("no statement", JW_REFUSAL(returned), JW_ACCEPTED);
+    same("one pass", JW_PASSES(returned), 1);
+    same_bytes("old rows", labels, after, sizeof after);
+}
+
+/* What is left over at a table's end is no row, and is not looked at. */
+static void cut_short(void)
+{
+    uint16_t list[2 * JW_RECORD_CELLS], answer[JW_TEXT_CELLS];
+    uint8_t out[64];
+    record_of(list, JW_LDA, JW_MODE_OFFSET, JW_X, 0, 8);
+    fill(list + JW_RECORD_CELLS, JW_RECORD_CELLS);
+    same("a record cut short", jw_lay(list, 2 * JW_RECORD_CELLS - 1, 0, out, sizeof out, answer, JW_SIZE_CELLS), JW_ACCEPTED);
+    same("one record", (long)jw_size(answer), 2);
+    same("two whole records", jw_lay(list, 2 * JW_RECORD_CELLS, 0, out, sizeof out, answer, JW_SIZE_CELLS), JW_UNKNOWN);
+    const uint16_t nodes[] = {1, 0, 0, 0, 7}, labels[] = {1, 0x1000, 0, 1, 0x2000};
+    same("a node cut short", jw_node(nodes, 5, labels, 5, 1, 0, answer, JW_NODE_CELLS), JW_TOO_DEEP);
+    same("a whole node", jw_node(nodes, 5, labels, 5, 0, 0, answer, JW_NODE_CELLS), JW_ACCEPTED);
+    same("a label cut short", jw_label(nodes, 5, labels, 5, 1, answer, JW_LABEL_CELLS), JW_BAD_LABEL);
+    const uint16_t objects[] = {1, 0x100, 1, 9, 9}, values[] = {0x39, 8, 999};
+    same("object and value cut short", jw_write_text(objects, 5, values, 3, out, sizeof out, answer, JW_SIZE_CELLS), JW_ACCEPTED);
+    size_t n = (size_t)jw_size(answer);
+    uint16_t runs[] = {UNTOUCHED, UNTOUCHED};
+    uint8_t bytes[1];
+    same("a run cut short", jw_read_text(out, n, bytes, 1, runs, 1, answer, JW_TEXT_CELLS), JW_NO_ROOM);
+    same("a whole run", jw_read_text(out, n, bytes, 1, runs, 2, answer, JW_TEXT_CELLS), JW_ACCEPTED);
+    same("more values counted than are left", jw_text_size(objects, 3, values, 1, answer, JW_SIZE_CELLS), JW_UNKNOWN);
+    const uint16_t statements[2 * JW_STATEMENT_CELLS] = {[JW_STATEMENT_LABEL] = JW_NONE, [JW_STATEMENT_CELLS] = 99};
+    uint32_t returned = jw_settle(statements, 2 * JW_STATEMENT_CELLS - 1, nodes, 0, nodes, 0, runs, 0);
+    same("a statement cut short", JW_REFUSAL(returned), JW_ACCEPTED);
+    returned = jw_settle(statements, 2 * JW_STATEMENT_CELLS, nodes, 0, nodes, 0, runs, 0);
+    same("a whole statement", JW_REFUSAL(returned), JW_UNKNOWN);
+}
+
 int main(void)
 {
     builds();
@@ -354,6 +420,8 @@ int main(void)
     segments();
     texts();
     settling();
+    stale_labels();
+    cut_short();
     printf("C: %d compared, %d differ\n", compared, differing);
     return differing != 0;
 }

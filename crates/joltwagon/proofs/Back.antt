@@ -23,7 +23,7 @@ use Rattle.instruction.specs.Choosing.{chooseOf}
 use Rattle.instruction.specs.Building.{instructionOf, madeAs, makeOf, acceptedOf, buildOf, handed, freshFrom, freshOf}
 use Rattle.instruction.proofs.Ready.{lacking-none}
 use Rattle.instruction.proofs.Fits.{build-chosen}
-use Rattle.entries.specs.Entries.{byteIn, isFlag, flagIn, flaggedIn, registersIn, operandOf, keptOf, allFlagged, toldIn, entryOf}
+use Rattle.entries.specs.Entries.{byteIn, isFlag, flagIn, flaggedIn, registersIn, fieldsIn, toldIn, keptFlagged, keptOf, allFlagged, entryOf}
 use Rattle.joltwagon.specs.Kept.{isKept, keptCells}
 
 flag-back : (b : Bool) → eqb (flagCell b) 1 ≡ b
@@ -41,8 +41,12 @@ unfolding byteIn pick
 byte-back row at h = rw (lt-ltb _ _ h)
 
 pub kept-row : (i : Instruction) → isKept (keptCells i) ≡ true
-unfolding isKept keptCells flaggedIn isFlag
-kept-row i = rw (flag-is (i .operand .indirect), flag-is (i .operand .forced), flag-is (i .operand .widening), flag-is (i .trial), flag-is (i .widened))
+unfolding isKept keptCells
+kept-row i = refl
+
+kept-flags : (i : Instruction) → keptFlagged (keptCells i) ≡ true
+unfolding keptFlagged keptCells flaggedIn isFlag
+kept-flags i = rw (flag-is (i .operand .indirect), flag-is (i .operand .forced), flag-is (i .operand .widening), flag-is (i .trial), flag-is (i .widened))
 
 eight-of : (l : List ℕ) → length l ≡ 8 →
     getD l 0 0 ∷ getD l 1 0 ∷ getD l 2 0 ∷ getD l 3 0 ∷ getD l 4 0 ∷ getD l 5 0 ∷ getD l 6 0 ∷ getD l 7 0 ∷ [] ≡ l
@@ -83,9 +87,9 @@ module _ (i : Instruction) (s : Small i) where
         b 14 (s .registers 7),
       ) (eight-of (i .operand .registers) (s .eight))
 
-  operand-back : operandOf (keptCells i) ≡ i .operand
-  unfolding operandOf keptCells flagIn
-  operand-back =
+  fields-back : fieldsIn (keptCells i) ≡ i .operand
+  unfolding fieldsIn keptCells flagIn
+  fields-back =
       rw (
         byte-back (keptCells i) 0 (s .operation),
         byte-back (keptCells i) 1 (s .mode),
@@ -98,8 +102,8 @@ module _ (i : Instruction) (s : Small i) where
       )
 
   kept-back : keptOf (keptCells i) ≡ i
-  unfolding keptOf keptCells flagIn
-  kept-back = rw (operand-back, byte-back (keptCells i) 15 (s .form), flag-back (i .trial), flag-back (i .widened))
+  unfolding keptOf toldIn pick keptCells flagIn
+  kept-back = rw (kept-flags i, fields-back, byte-back (keptCells i) 15 (s .form), flag-back (i .trial), flag-back (i .widened))
 
 -- ---- so it is with every instruction that a call hands out
 byte-small : (row : List ℕ) (at : ℕ) → byteIn row at < 256
@@ -119,31 +123,33 @@ registers-small row (suc (suc (suc (suc (suc (suc zero)))))) = byte-small row 13
 registers-small row (suc (suc (suc (suc (suc (suc (suc zero))))))) = byte-small row 14
 registers-small row (suc (suc (suc (suc (suc (suc (suc (suc k)))))))) = omega arith
 
-kept-small : (row : List ℕ) → Small (keptOf row)
-unfolding keptOf operandOf registersIn
-kept-small row = record {
-  operation = byte-small row 0;
-  mode = byte-small row 1;
-  step = byte-small row 4;
-  count = byte-small row 6;
-  form = byte-small row 15;
-  eight = refl;
-  registers = registers-small row;
-}
+-- whatever its row holds, known or not
+told-small :
+    (flags : Bool) (row : List ℕ) (form : ℕ) (trial widened : Bool) → form < 256 →
+    Small (record { operand = toldIn flags row; form = form; trial = trial; widened = widened })
+unfolding toldIn fieldsIn registersIn
+told-small flags row form trial widened h =
+    let m = byte-small row 1 in
+    let s = byte-small row 4 in
+    let n = byte-small row 6 in
+    let r = registers-small row in
+    by-pick (λ (o : Operand). Small (record { operand = o; form = form; trial = trial; widened = widened })) flags
+    (record { operation = byte-small row 0; mode = m; step = s; count = n; form = h; eight = refl; registers = r })
+    (record { operation = omega arith; mode = m; step = s; count = n; form = h; eight = refl; registers = r })
 
--- one that was made, of a known operation or not
-formed-small : (row : List ℕ) (form : ℕ) → form < 7 → Small (instructionOf (toldIn row) form)
-unfolding keptOf toldIn instructionOf
-formed-small row form h =
-    let s = kept-small row in
-    by-pick (λ (o : Operand). Small (instructionOf o form)) (allFlagged row)
-    (record { operation = s .operation; mode = s .mode; step = s .step; count = s .count; form = omega arith; eight = s .eight; registers = s .registers })
-    (record { operation = omega arith; mode = s .mode; step = s .step; count = s .count; form = omega arith; eight = s .eight; registers = s .registers })
+kept-small : (row : List ℕ) → Small (keptOf row)
+unfolding keptOf
+kept-small row = told-small (keptFlagged row) row (byteIn row 15) (flagIn row 16) (flagIn row 17) (byte-small row 15)
+
+-- one that was made
+formed-small : (row : List ℕ) (form : ℕ) → form < 7 → Small (instructionOf (toldIn (allFlagged row) row) form)
+unfolding instructionOf
+formed-small row form h = told-small (allFlagged row) row form _ false (omega arith)
 
 made-small : (row : List ℕ) → makeOf (entryOf row) .refusal ≡ 0 → Small (makeOf (entryOf row) .instruction)
 unfolding makeOf madeAs entryOf
 made-small row =
-    let o = toldIn row in
+    let o = toldIn (allFlagged row) row in
     let r = entryOf row in
     let form = formOf o (r .values) (r .dirty) in
     let P : Made → Type 0 = λ m. m .refusal ≡ 0 → Small (m .instruction) in

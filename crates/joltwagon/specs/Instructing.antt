@@ -18,7 +18,7 @@ use Rattle.joltwagon.specs.Kept.{isKept, keptCells, isPresent, presentOf
 unfoldable pub madeSaid : Made → Said
 madeSaid m = said (m .refusal) (keptCells (m .instruction))
 
--- the length, the five bytes, and whether the page is dirty after it
+-- the length, the five bytes, and whether this instruction dirties the page
 unfoldable pub frontCells : Built → List ℕ
 frontCells b =
     b .length

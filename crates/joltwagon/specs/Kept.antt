@@ -7,12 +7,12 @@ use lib.ListN.{length, getD}
 use Rattle.answers.specs.Sizes.{flagCell}
 use Rattle.instruction.specs.declared.Values.{Values}
 use Rattle.instruction.specs.declared.Instruction.{Instruction}
-use Rattle.entries.specs.Entries.{isFlag, flagIn, flaggedIn, valueIn}
+use Rattle.entries.specs.Entries.{isFlag, flagIn, valueIn}
 
 -- ---- the kept instruction
--- the row is long enough, and its flags are 0 or 1
+-- the row is long enough; a flag of it that is neither 0 nor 1 is unknown in what `keptOf` reads
 unfoldable pub isKept : List ℕ → Bool
-isKept row = leb 18 (length row) && (flaggedIn row && (isFlag row 16 && isFlag row 17))
+isKept row = leb 18 (length row)
 
 -- the row that `keptOf` reads, handed out
 unfoldable pub keptCells : Instruction → List ℕ
@@ -38,6 +38,7 @@ keptCells i =
     ∷ []
 
 -- ---- what a build takes anew: the page, and the values
+-- the row is long enough, and its flags are 0 or 1
 unfoldable pub isPresent : List ℕ → Bool
 isPresent row = leb 6 (length row) && (isFlag row 0 && isFlag row 1)
 

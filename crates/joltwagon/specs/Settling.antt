@@ -13,9 +13,9 @@ use Rattle.assembly.specs.declared.Hexed.{Hexed}
 use Rattle.assembly.specs.Objects.{objectsOf, valuesOf}
 use Rattle.assembly.specs.Text.{settledText, hexedOf}
 
--- the refusal in the low byte, the passes in the high one
+-- the refusal in the low 16 bits, the passes in the high 16
 abbrev pub withPasses : (refusal passes : ℕ) → ℕ
-withPasses refusal passes = refusal + 256 * passes
+withPasses refusal passes = refusal + 65536 * passes
 
 -- how long the text is
 unfoldable pub hexSaid : Hexed → Said

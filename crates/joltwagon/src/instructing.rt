@@ -21,7 +21,7 @@ ghost use Rattle.joltwagon.specs.Instructing.{frontCells, builtSaid, mak
 
 const RECORD: usize = 21;
 
-// The length, the five bytes, and whether the page is dirty after it.
+// The length, the five bytes, and whether this instruction dirties the page: a page that was dirty before it stays so.
 fn front_cells(b: Built) -> [u16; 7]
     ensures { λ r. ⌜ r ≡ frontCells b ⌝ }
 {

@@ -3,7 +3,6 @@ use answers::flag;
 use answers::wide;
 use entries::byte_in;
 use entries::flag_in;
-use entries::flagged;
 use entries::is_flag;
 use ground::tables::cell;
 use instruction::Instruction;
@@ -19,10 +18,7 @@ const PRESENT: usize = 6;
 pub(crate) fn is_kept(row: &[u16]) -> bool
     ensures { λ r. ⌜ r ≡ isKept (now (row .entry)) ⌝ }
 {
-    if row.len() < KEPT {
-        return false;
-    }
-    flagged(row) & (is_flag(row, 16) & is_flag(row, 17))
+    KEPT <= row.len()
 }
 
 // The row that `entries::kept_of` reads.

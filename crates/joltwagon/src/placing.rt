@@ -6,7 +6,7 @@ ghost use lib.ListN.{length};
 ghost use Rattle.answers.specs.Said.{refusalOf, cellsAfter};
 ghost use Rattle.joltwagon.specs.Placing.{addRefusal, segmentsAfter, segmentSaid};
 
-// Adds a start: 1 if the table has no cell, 12 if the start is there, 17 if 64 segments are, 9 if the table is full. 0 again is free.
+// Adds a start: 1 if the table has no cell, 12 if the start is there, 17 if 64 segments are counted, 9 if the table is full. 0 again is free.
 #[no_mangle]
 pub extern "C" fn jw_add_segment(segments: &mut [u16], start: u16) -> u8
     ensures { λ r. ⌜ r ≡ addRefusal (now (segments .entry)) start ⌝ }

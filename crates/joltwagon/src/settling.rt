@@ -7,16 +7,16 @@ ghost use Rattle.passes.specs.Walks.{source};
 ghost use Rattle.passes.specs.Passes.{settledOf, labelsAfter};
 ghost use Rattle.joltwagon.specs.Settling.{withPasses, HexWritten};
 
-// The refusal, and the number of passes 256 times.
-pub(crate) fn with_passes(refusal: u8, passes: u8) -> u16
+// The refusal in the low 16 bits, and the number of passes above them.
+pub(crate) fn with_passes(refusal: u8, passes: u8) -> u32
     ensures { λ r. ⌜ r ≡ withPasses refusal passes ⌝ }
 {
-    refusal as u16 + 256 * (passes as u16)
+    refusal as u32 + 65536 * (passes as u32)
 }
 
 // Settles the statements: the label table gets the addresses found, and on a refusal stays as it was.
 #[no_mangle]
-pub extern "C" fn jw_settle(list: &[u16], items: &[u16], nodes: &[u16], labels: &mut [u16]) -> u16
+pub extern "C" fn jw_settle(list: &[u16], items: &[u16], nodes: &[u16], labels: &mut [u16]) -> u32
     ensures { λ r. ⌜ r ≡ withPasses (settledOf (source (now (list .entry)) (now (items .entry)) (now (nodes .entry))) (now (labels .entry)) .refusal) (settledOf (source (now (list .entry)) (now (items .entry)) (now (nodes .entry))) (now (labels .entry)) .passes) ⌝ }
     ensures { λ _. ⌜ now (labels .exit) ≡ labelsAfter (source (now (list .entry)) (now (items .entry)) (now (nodes .entry))) (now (labels .entry)) ⌝ }
 {
@@ -35,7 +35,7 @@ pub extern "C" fn jw_hex(
     values: &mut [u16],
     out: &mut [u8],
     answer: &mut [u16],
-) -> u16
+) -> u32
     ensures { λ r. ⌜ HexWritten (source (now (list .entry)) (now (items .entry)) (now (nodes .entry))) (now (labels .entry)) (now (objects .entry)) (now (values .entry)) (now (out .entry)) (now (answer .entry)) r (now (labels .exit)) (now (objects .exit)) (now (values .exit)) (now (out .exit)) (now (answer .exit)) ⌝ }
 {
     if answer.len() < 4 {

@@ -116,7 +116,7 @@ impl Instruction {
         Ok(&self.bytes)
     }
 
-    /// Whether the page is dirty after the last build.
+    /// Whether this instruction, as last built, dirties the page. A page that was dirty before it stays so: `dp_dirty |= instruction.changes_dp()`.
     pub fn changes_dp(&self) -> bool {
         self.changes_dp
     }

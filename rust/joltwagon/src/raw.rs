@@ -26,8 +26,8 @@ mod c {
         pub fn jw_text_size(objects: *const u16, objects_len: usize, values: *const u16, values_len: usize, answer: *mut u16, answer_len: usize) -> u8;
         pub fn jw_write_text(objects: *const u16, objects_len: usize, values: *const u16, values_len: usize, out: *mut u8, out_len: usize, answer: *mut u16, answer_len: usize) -> u8;
         pub fn jw_read_text(text: *const u8, text_len: usize, bytes: *mut u8, bytes_len: usize, runs: *mut u16, runs_len: usize, answer: *mut u16, answer_len: usize) -> u8;
-        pub fn jw_hex(list: *const u16, list_len: usize, items: *const u16, items_len: usize, nodes: *const u16, nodes_len: usize, labels: *mut u16, labels_len: usize, objects: *mut u16, objects_len: usize, values: *mut u16, values_len: usize, out: *mut u8, out_len: usize, answer: *mut u16, answer_len: usize) -> u16;
-        pub fn jw_settle(list: *const u16, list_len: usize, items: *const u16, items_len: usize, nodes: *const u16, nodes_len: usize, labels: *mut u16, labels_len: usize) -> u16;
+        pub fn jw_hex(list: *const u16, list_len: usize, items: *const u16, items_len: usize, nodes: *const u16, nodes_len: usize, labels: *mut u16, labels_len: usize, objects: *mut u16, objects_len: usize, values: *mut u16, values_len: usize, out: *mut u8, out_len: usize, answer: *mut u16, answer_len: usize) -> u32;
+        pub fn jw_settle(list: *const u16, list_len: usize, items: *const u16, items_len: usize, nodes: *const u16, nodes_len: usize, labels: *mut u16, labels_len: usize) -> u32;
     }
 }
 
@@ -138,14 +138,13 @@ pub fn read_text(text: &[u8], bytes: &mut [u8], runs: &mut [u16]) -> Result<(usi
     Ok((size(&cells[..4]), size(&cells[4..])))
 }
 
-/// The passes made, and the refusal if there is one.
-fn returned(number: u16) -> (u8, Result<()>) {
-    let [refusal, passes] = number.to_le_bytes();
-    (passes, accepted(refusal))
+/// The passes made, in the high 16 bits, and the refusal if there is one, in the low 16.
+fn returned(number: u32) -> (u16, Result<()>) {
+    ((number >> 16) as u16, accepted(number as u8))
 }
 
 /// The number of passes made, beside a refusal too, and whether the label table now has the addresses.
-pub fn settle(list: &[u16], items: &[u16], nodes: &[u16], labels: &mut [u16]) -> (u8, Result<()>) {
+pub fn settle(list: &[u16], items: &[u16], nodes: &[u16], labels: &mut [u16]) -> (u16, Result<()>) {
     returned(unsafe {
         c::jw_settle(list.as_ptr(), list.len(), items.as_ptr(), items.len(), nodes.as_ptr(), nodes.len(), labels.as_mut_ptr(), labels.len())
     })
@@ -159,7 +158,7 @@ pub struct Room<'a> {
 }
 
 /// The number of passes made, beside a refusal too, and the length of the text that now stands at the front of `out`.
-pub fn hex(list: &[u16], items: &[u16], nodes: &[u16], labels: &mut [u16], room: Room) -> (u8, Result<usize>) {
+pub fn hex(list: &[u16], items: &[u16], nodes: &[u16], labels: &mut [u16], room: Room) -> (u16, Result<usize>) {
     let mut answer = [0; 4];
     let (passes, accepted) = returned(unsafe {
         c::jw_hex(

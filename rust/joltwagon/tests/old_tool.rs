@@ -66,6 +66,22 @@ fn a_branch_is_widened_and_stays_so() {
 }
 
 #[test]
+fn a_dirty_page_stays_dirty() {
+    let mut labels = ProgramLabels::new();
+    let low = operand(Mode::Extended, Some(labels.node(Node::Constant(0x20))));
+    let to_dp = OperandDescriptor { regs: vec![Register::A, Register::DP], ..operand(Mode::Register, None) };
+    let mut dp_dirty = false;
+    let mut bytes = Vec::new();
+    for (name, od) in [("LDA", &low), ("TFR", &to_dp), ("LDA", &low), ("LDA", &low)] {
+        let mut instruction = Instruction::try_new(named(name), od, 0, &labels, dp_dirty, true).unwrap();
+        bytes.extend_from_slice(instruction.build(0, &labels, dp_dirty).unwrap());
+        assert_eq!(instruction.changes_dp(), name == "TFR");
+        dp_dirty |= instruction.changes_dp();
+    }
+    assert_eq!(bytes, [0x96, 0x20, 0x1F, 0x8B, 0xB6, 0x00, 0x20, 0xB6, 0x00, 0x20]);
+}
+
+#[test]
 fn refusals_in_order() {
     let mut labels = ProgramLabels::new();
     let circle = labels.node(Node::Label("circle"));
