@@ -1,7 +1,7 @@
 /* Joltwagon: the proved back end of a 6809 assembler, for C.
  *
  * Link target/staticlib/libjoltwagon.a, which `rt staticlib joltwagon` writes (x86-64). The library keeps no state, allocates
- * nothing and calls nothing, so every function may be called from any thread.
+ * nothing and calls nothing but memset, the one symbol that it leaves undefined, so every function may be called from any thread.
  *
  * A call returns its refusal, one of enum jw_refusal, 0 for none; jw_settle and jw_hex return the number of passes above it, so
  * that theirs is JW_REFUSAL(returned), and `returned` itself is not 0 where they succeed. What else a call has to say goes into a
@@ -143,7 +143,7 @@ enum {
     JW_STEP = 4,
     JW_WIDENING = 5,
     JW_REGISTER_COUNT = 6,
-    JW_REGISTERS = 7, /* eight cells; one beyond the count is not looked at, and is handed back in a kept row, as 255 where it is above */
+    JW_REGISTERS = 7, /* eight cells. Those beyond the count are not looked at; a kept row hands them back, what is above 255 as 255 */
     JW_OPERAND_CELLS = 15,
     JW_RECORD_PRESENT = 15, /* a present row, so that `record + JW_RECORD_PRESENT` can be lent as one */
     JW_RECORD_CELLS = 21
@@ -165,7 +165,7 @@ enum { JW_FORM = 15, JW_TRIAL = 16, JW_WIDENED = 17, JW_KEPT_CELLS = 18 };
 enum {
     JW_BUILT_LENGTH = 0,
     JW_BUILT_BYTES = 1, /* five cells, 0 beyond the length */
-    JW_BUILT_DIRTIES = 6, /* this instruction dirties the page, which is dirty after it if it was before, too: `dirty |= ..` */
+    JW_BUILT_DIRTIES = 6, /* this instruction dirties the page. One that was dirty stays so: `dirty |= answer[JW_BUILT_DIRTIES]` */
     JW_BUILT_KEPT = 7, /* a kept instruction */
     JW_BUILT_CELLS = 25
 };
@@ -303,13 +303,14 @@ uint8_t jw_read_text(const uint8_t *text, size_t text_len, uint8_t *bytes, size_
 /* Makes passes over a list of statements until one changes no label address and no size: the label table gets the addresses. At most 1,024
  * statements, 512 labels and 64 passes. The table must have the row of every label that a statement bears, else JW_NO_ROOM. A row that
  * no statement bears gets the address 0, and is undefined unless it has an expression: {1, 1234, 9} becomes {0, 0, 9}. Returns
- * the refusal and the passes (JW_REFUSAL, JW_PASSES). The call needs STACK_SETTLE of stack. */
+ * the refusal and the passes (JW_REFUSAL, JW_PASSES). Stack: 14,512 bytes, measured by painting it, where a call took most (the
+ * expression of an FCB deeper than 32). */
 uint32_t jw_settle(const uint16_t *list, size_t list_len, const uint16_t *items, size_t items_len, const uint16_t *nodes,
                    size_t nodes_len, uint16_t *labels, size_t labels_len);
 
 /* From a list of statements to the text of its settled pass: the label table gets the addresses as from jw_settle, the object and value tables
  * what jw_write_text takes, the front of `out` the text, and the answer is its length, a size. Returns the refusal and the passes
- * (JW_REFUSAL, JW_PASSES). The call needs STACK_HEX of stack. */
+ * (JW_REFUSAL, JW_PASSES). Stack: 14,928 bytes, measured likewise. */
 uint32_t jw_hex(const uint16_t *list, size_t list_len, const uint16_t *items, size_t items_len, const uint16_t *nodes,
                 size_t nodes_len, uint16_t *labels, size_t labels_len, uint16_t *objects, size_t objects_len, uint16_t *values,
                 size_t values_len, uint8_t *out, size_t out_len, uint16_t *answer, size_t answer_len);

@@ -164,6 +164,7 @@ static void kept(void)
     now[JW_VALUES_GIVEN] = 1;
     now[JW_PAGE_DIRTY] = 2;
     same("a page twice dirty", jw_build(row, JW_KEPT_CELLS, now, JW_PRESENT_CELLS, 0, answer, JW_BUILT_CELLS), JW_UNKNOWN);
+    now[JW_PAGE_DIRTY] = 1;
     untouched("refused builds", answer, JW_BUILT_CELLS);
     same("a short answer", jw_make(r, JW_RECORD_CELLS, answer, JW_KEPT_CELLS - 1), JW_NO_ROOM);
     untouched("a short answer", answer, JW_BUILT_CELLS);

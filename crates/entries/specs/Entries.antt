@@ -90,7 +90,7 @@ operandOf row = toldIn (flaggedIn row) row
 -- ---- the kept instruction: its operand, its form, its trial mark and its widening
 -- the two marks are flags too
 unfoldable pub keptFlagged : List ℕ → Bool
-keptFlagged row = flaggedIn row && (isFlag row 16 && isFlag row 17)
+keptFlagged row = isFlag row 16 && (isFlag row 17 && flaggedIn row)
 
 unfoldable pub keptOf : List ℕ → Instruction
 keptOf row =

@@ -11,7 +11,7 @@ ghost use Prim.Native.Nat.{_≤_};
 ghost use lib.Dec.{ltb};
 ghost use lib.ListN.{length};
 ghost use Rattle.ground.specs.Choice.{pick};
-ghost use Rattle.entries.specs.Entries.{nowhere, byteIn, isFlag, flagIn, flaggedIn, cellsOf, registersIn, fieldsIn, toldIn, operandOf, keptOf, valuesIn, entryOf};
+ghost use Rattle.entries.specs.Entries.{nowhere, byteIn, isFlag, flagIn, flaggedIn, cellsOf, registersIn, fieldsIn, toldIn, operandOf, keptFlagged, keptOf, valuesIn, entryOf};
 
 // No operation, mode, register, step or width has this number, and no list so many registers.
 const NOWHERE: u8 = 255;
@@ -153,13 +153,26 @@ pub fn operand_of(row: &[u16]) -> Operand
     operand_in(&whole)
 }
 
+// Each flag of the kept instruction is 0 or 1, its two marks too.
+fn kept_flagged(row: &[u16]) -> bool
+    requires { ⌜ 18 ≤ length (now row) ⌝ }
+    ensures { λ r. ⌜ r ≡ keptFlagged (now (row .entry)) ⌝ }
+{
+    if 1 < row[16] {
+        return false;
+    }
+    if 1 < row[17] {
+        return false;
+    }
+    flagged(row)
+}
+
 // The kept instruction in a row that is long enough.
 fn kept_in(row: &[u16]) -> Instruction
     requires { ⌜ 18 ≤ length (now row) ⌝ }
     ensures { λ r. ⌜ r ≡ keptOf (now (row .entry)) ⌝ }
 {
-    let flags = flagged(row) & ((row[16] <= 1) & (row[17] <= 1));
-    let operand = told(row, flags);
+    let operand = told(row, kept_flagged(row));
     let form = narrow(row[15]);
     let trial = row[16] == 1;
     let widened = row[17] == 1;
