@@ -37,8 +37,8 @@ formOf o v dirty =
     (pick (eqb (o .mode) modeImmediate) immediate
     (pick (eqb (o .mode) modeInherent) inherent indexed))))
 
--- a kept instruction's form may be one that its mode never has: no postbyte is of mode Direct, Immediate or Inherent, and a list of registers is of
--- "Register mode only"
+-- a kept instruction's mode and form need not fit each other. Where the bytes hang on the mode, they must: the modes Direct, Immediate and Inherent say of no
+-- postbyte which it is, and the rows of register lists "take Register mode only". The other forms take a number or nothing, whatever the mode.
 unfoldable pub strays : ℕ → ℕ → Bool
 strays mode form = (eqb form indexed && ltb modeExtended mode) || (eqb form register && not (eqb mode modeRegister))
 
