@@ -16,21 +16,18 @@ use Rattle.rows.specs.declared.Coded.the-variants.{Code, Unknown, Missin
 use Rattle.rows.specs.Sheet.{tableOf, page0, page10, page11}
 use Rattle.rows.specs.Lookup.{mergedOf, isCode, placed, hasFormOf, knownOf, codeOf, forms}
 use Rattle.rows.specs.Sizes.{isWide, isLong, numberAt, ofCode, numberSizeOf, leastAt, lesser, leastAmong, smallestSizeOf, longFrom}
+use Rattle.rows.specs.Registers.{reachesMemory, isShortBranch, isLongBranch, numberFor}
 use Rattle.rows.specs.Quick.{rowAt, digitOf, placeOnPage0, sixteenLine, regularCode, otherLine, placeOfOperation, pageOf, quickOn, wideOf, immediateBytes, memoryBytes, branchBytes, numberBytes, operandBytes, formedOf, rowBytes}
-use Rattle.rows.proofs.Codes.{placed-none, alike}
+use Rattle.rows.proofs.Codes.{placed-none}
 use Rattle.rows.proofs.Quick.{quickKnown, same-bool, known-quick, code-agrees}
+use Rattle.rows.proofs.Sources.{of-code, no-number-for, two-sources}
 
 numberAgrees : ℕ → ℕ → Bool
-numberAgrees o form =
-    eqb (pick (quickKnown o) (numberBytes (mergedOf o) form) 0) (ofCode (numberAt form) (quickOn (mergedOf o) form))
+numberAgrees o form = eqb (pick (quickKnown o) (numberBytes (mergedOf o) form) 0) (numberFor (mergedOf o) form)
 
 numbers-agree : T (upto (λ (o : ℕ). upto (numberAgrees o) 7) 256)
-unfolding numberAgrees numberBytes wideOf immediateBytes memoryBytes branchBytes numberAt isWide isLong quickOn mergedOf rowAt digitOf pageOf sixteenLine regularCode otherLine placeOfOperation placeOnPage0 tableOf page0 page10 page11 pick
+unfolding numberAgrees numberBytes wideOf immediateBytes memoryBytes branchBytes numberFor reachesMemory isShortBranch isLongBranch mergedOf pick
 numbers-agree = tt
-
--- a function of page and code, asked where the code looks, and by definition
-of-code : (f : ℕ → ℕ → ℕ) (o form : ℕ) → o < 256 → ofCode f (quickOn (mergedOf o) form) ≡ ofCode f (codeOf o form)
-of-code f o form h = ap (ofCode f) (code-agrees o form h) ∙ sym (alike (ofCode f) refl o form)
 
 zero-either : (t : Bool) → pick {A = ℕ} t 0 0 ≡ 0
 unfolding pick
@@ -43,18 +40,16 @@ no-bytes o form h =
     rw (ne-eqb form 1 (omega arith), ne-eqb form 2 (omega arith), ne-eqb form 4 (omega arith), ne-eqb form 5 (omega arith))
 
 pub number-quick : (o form : ℕ) → o < 256 → pick (knownOf o) (numberBytes (mergedOf o) form) 0 ≡ numberSizeOf o form
-unfolding numberAgrees numberSizeOf
-number-quick o form h = rw (← known-quick o h) (known (ltb form 7) refl)
+unfolding numberAgrees
+number-quick o form h = rw (← known-quick o h) (known (ltb form 7) refl ∙ sym (two-sources o form h))
   where
-    known : (t : Bool) → ltb form 7 ≡ t → pick (quickKnown o) (numberBytes (mergedOf o) form) 0 ≡ ofCode (numberAt form) (codeOf o form)
+    known : (t : Bool) → ltb form 7 ≡ t → pick (quickKnown o) (numberBytes (mergedOf o) form) 0 ≡ numberFor (mergedOf o) form
     known true e =
-        eqb→eq (pick (quickKnown o) (numberBytes (mergedOf o) form) 0) (ofCode (numberAt form) (quickOn (mergedOf o) form))
+        eqb→eq (pick (quickKnown o) (numberBytes (mergedOf o) form) 0) (numberFor (mergedOf o) form)
         (below (numberAgrees o) 7 (below (λ (n : ℕ). upto (numberAgrees n) 7) 256 numbers-agree o h) form (ltb-true form 7 e))
-        ∙ of-code (numberAt form) o form h
     known false e =
         rw (no-bytes (mergedOf o) form (ltb-false form 7 e))
-        (zero-either (quickKnown o)
-        ∙ sym (alike (ofCode (numberAt form)) refl o form ∙ ap (ofCode (numberAt form)) (placed-none o form (ltb-false form 7 e))))
+        (zero-either (quickKnown o) ∙ sym (no-number-for (mergedOf o) form (ltb-false form 7 e)))
 
 abbrev leastQuick : ℕ → List ℕ → ℕ
 leastQuick o [] = 0

@@ -5,6 +5,7 @@ pub mod Pages
 pub mod Codes
 pub mod Tests
 pub mod Quick
+pub mod Sources
 pub mod Bytes
 pub mod Laws
 pub mod Lengths
