@@ -16,7 +16,6 @@ use Rattle.rows.specs.declared.Coded.{Coded}
 use Rattle.rows.specs.declared.Coded.the-variants.{Code, Unknown, Missing}
 use Rattle.rows.specs.Sheet.{count, tableOf}
 use Rattle.rows.specs.Lookup.{find, mergedOf, onPage, placed, isCode, hasFormOf, hasSome, forms, knownOf, codeOf, refusalOf}
-use Rattle.rows.specs.Quick.{absentOf}
 use Rattle.rows.proofs.Pages.{no-form}
 
 pub placed-none : (o form : ℕ) → 7 ≤ form → placed o form ≡ Missing
@@ -102,8 +101,8 @@ code-placed o form p c e =
     let h = has-code o form p c e in
     rw (has-form-known o form h, lt-ltb form 7 (form-small o form h)) e
 
-pub absent-placed : (o form : ℕ) → placed o form ≡ Missing → absentOf o form ≡ codeOf o form
-unfolding codeOf absentOf
+pub absent-placed : (o form : ℕ) → placed o form ≡ Missing → pick (knownOf o && ltb form 7) Missing Unknown ≡ codeOf o form
+unfolding codeOf
 absent-placed o form e = rw e
 
 pub code-is-placed : (o form p c : ℕ) → codeOf o form ≡ Code p c → placed o form ≡ Code p c
@@ -113,17 +112,6 @@ code-is-placed o form p c e = from (knownOf o && ltb form 7) e
     from : (t : Bool) → pick t (placed o form) Unknown ≡ Code p c → placed o form ≡ Code p c
     from true d = d
     from false d = absurd (let z : _≡_ {A = ℕ} 0 1 = cc in omega arith)
-
-code-missing : (o form : ℕ) → knownOf o ≡ true → form < 7 → hasFormOf o form ≡ false → codeOf o form ≡ Missing
-unfolding hasFormOf codeOf pick
-code-missing o form k h e = rw (k, lt-ltb form 7 h) (lacks (placed-or o form) e)
-  where
-    lacks : (placed o form ≡ Missing) ⊎ ((p : ℕ) × ((c : ℕ) × (placed o form ≡ Code p c))) → isCode (placed o form) ≡ false → placed o form ≡ Missing
-    lacks (inl m) d = m
-    lacks (inr x) d =
-        let q : placed o form ≡ Code (x .0) (x .1 .0) = x .1 .1 in
-        let t : true ≡ false = sym (ap isCode q) ∙ d in
-        absurd (let z : _≡_ {A = ℕ} 0 1 = cc in omega arith)
 
 either-way : {A : Type 0} (g : Coded → A) (t : Bool) (a : Coded) → g a ≡ g Unknown → g (pick t a Unknown) ≡ g a
 unfolding pick
@@ -144,10 +132,15 @@ pub has-form-code : (o form : ℕ) → hasFormOf o form ≡ isCode (codeOf o for
 unfolding hasFormOf
 has-form-code o form = sym (alike isCode refl o form)
 
--- 01's numbers: 1 where the operation or the form is unknown, and 2 where the row only lacks the form
-pub refused-unknown : (o form : ℕ) → (knownOf o && ltb form 7) ≡ false → refusalOf (codeOf o form) ≡ unknown
-unfolding codeOf pick
-refused-unknown o form e = rw e
-
-pub refused-missing : (o form : ℕ) → knownOf o ≡ true → form < 7 → hasFormOf o form ≡ false → refusalOf (codeOf o form) ≡ noSuchMode
-refused-missing o form k h e = ap refusalOf (code-missing o form k h e)
+-- 01's numbers, each exactly where it belongs: 1 where the operation or the form is unknown, 2 where a known operation lacks the form, else 0
+pub code-refused : (o form : ℕ) → refusalOf (codeOf o form) ≡ pick (knownOf o && ltb form 7) (pick (hasFormOf o form) 0 noSuchMode) unknown
+unfolding hasFormOf codeOf pick
+code-refused o form = from (knownOf o && ltb form 7) (placed o form) (placed-or o form)
+  where
+    from :
+        (t : Bool) (a : Coded) →
+        (a ≡ Missing) ⊎ ((p : ℕ) × ((c : ℕ) × (a ≡ Code p c))) →
+        refusalOf (pick t a Unknown) ≡ pick t (pick (isCode a) 0 noSuchMode) unknown
+    from true a (inl m) = rw m
+    from true a (inr x) = rw (x .1 .1)
+    from false a d = refl

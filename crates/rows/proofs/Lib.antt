@@ -10,4 +10,5 @@ pub mod Bytes
 pub mod Laws
 pub mod Lengths
 pub mod Counts
+pub mod Told
 pub mod Only

@@ -10,11 +10,11 @@ use Rattle.ground.specs.Choice.{pick}
 use Rattle.ground.proofs.Ranges.{upto, below, both-left, both-right}
 use Rattle.rows.specs.declared.Found.{Found}
 use Rattle.rows.specs.declared.Found.the-variants.{Row, Nothing}
-use Rattle.rows.specs.declared.Coded.the-variants.{Missing}
+use Rattle.rows.specs.declared.Coded.the-variants.{Unknown, Missing}
 use Rattle.rows.specs.declared.Named.the-variants.{Undefined}
 use Rattle.rows.specs.Sheet.{tableOf, page0, page10, page11}
 use Rattle.rows.specs.Lookup.{mergedOf, onPage, placed, hasFormOf, forms, knownOf, codeOf, inForm, rowAmong, rowOf}
-use Rattle.rows.specs.Quick.{rowAt, ofOperation, digitOf, formOf, placeOnPage0, placeOfCode, sixteenLine, regularCode, otherLine, placeOfOperation, pageOf, quickRow, quickOn, absentOf}
+use Rattle.rows.specs.Quick.{rowAt, ofOperation, digitOf, formOf, placeOnPage0, placeOfCode, sixteenLine, regularCode, otherLine, placeOfOperation, pageOf, quickRow, quickOn}
 use Rattle.rows.proofs.At.{nothing-at}
 use Rattle.rows.proofs.Codes.{placed-none, code-placed, absent-placed}
 use Rattle.rows.proofs.Pages.{no-form, by-page}
@@ -109,13 +109,13 @@ pub code-found :
     at ≡ placeOfOperation name form →
     row ≡ rowAt at (tableOf page form) →
     found ≡ ofOperation name row →
-    onPage page found (absentOf o form) ≡ codeOf o form
+    onPage page found (pick (knownOf o && ltb form 7) Missing Unknown) ≡ codeOf o form
 unfolding quickOn
 code-found o form name page at row found h e d g f i = from found e₁
   where
     e₁ : onPage page found Missing ≡ placed o form
     e₁ = (cc) ∙ code-agrees o form h
 
-    from : (a : Found) → onPage page a Missing ≡ placed o form → onPage page a (absentOf o form) ≡ codeOf o form
+    from : (a : Found) → onPage page a Missing ≡ placed o form → onPage page a (pick (knownOf o && ltb form 7) Missing Unknown) ≡ codeOf o form
     from (Row row) p = sym (code-placed o form page _ (sym p))
     from Nothing p = absent-placed o form (sym p)

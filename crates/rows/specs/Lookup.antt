@@ -75,6 +75,11 @@ refusalOf (Code page code) = 0
 refusalOf Unknown = unknown
 refusalOf Missing = noSuchMode
 
+abbrev pub valuesOf : Coded → List ℕ
+valuesOf (Code page code) = page ∷ code ∷ []
+valuesOf Unknown = []
+valuesOf Missing = []
+
 -- what is found in a form, or else another answer
 abbrev pub inForm : ℕ → Found → Named → Named
 inForm form (Row row) other = Is (row % 256) form
@@ -88,7 +93,11 @@ rowAmong page code (form ∷ fs) = inForm form (find true code (tableOf page for
 unfoldable pub rowOf : ℕ → ℕ → Named
 rowOf page code = rowAmong page code forms
 
--- 01's number for each answer
+-- 01's number for each answer, and its values: the operation and the form, as docs/ROWS.md numbers them
 abbrev pub refusalOfNamed : Named → ℕ
 refusalOfNamed (Is operation form) = 0
 refusalOfNamed Undefined = undefined
+
+abbrev pub valuesOfNamed : Named → List ℕ
+valuesOfNamed (Is operation form) = operation ∷ form ∷ []
+valuesOfNamed Undefined = []

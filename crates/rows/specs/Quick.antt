@@ -9,12 +9,12 @@ use Rattle.ground.specs.Choice.{pick}
 use Rattle.rows.specs.declared.Found.{Found}
 use Rattle.rows.specs.declared.Found.the-variants.{Row, Nothing}
 use Rattle.rows.specs.declared.Coded.{Coded}
-use Rattle.rows.specs.declared.Coded.the-variants.{Unknown, Missing}
+use Rattle.rows.specs.declared.Coded.the-variants.{Missing}
 use Rattle.rows.specs.declared.Named.{Named}
 use Rattle.rows.specs.declared.Named.the-variants.{Undefined}
 use Rattle.rows.specs.Forms.{inherent, immediate, direct, indexed, extended, relative, register}
 use Rattle.rows.specs.Sheet.{tableOf}
-use Rattle.rows.specs.Lookup.{onPage, inForm, knownOf}
+use Rattle.rows.specs.Lookup.{onPage, inForm}
 use Rattle.rows.specs.Sizes.{between}
 
 -- the row at a place of a table
@@ -145,10 +145,6 @@ quickRow page code = inForm (formOf code) (rowAt (placeOfCode page code) (tableO
 -- a code by its operation, in the one table of its page
 unfoldable pub quickOn : ℕ → ℕ → Coded
 quickOn o form = onPage (pageOf o) (ofOperation o (rowAt (placeOfOperation o form) (tableOf (pageOf o) form))) Missing
-
--- why there is no code
-unfoldable pub absentOf : ℕ → ℕ → Coded
-absentOf o form = pick (knownOf o && ltb form 7) Missing Unknown
 
 -- the bytes of an operation's immediate, direct address and branch, and the least of any row but its code, by the operation's number
 unfoldable pub wideOf : ℕ → Bool

@@ -14,7 +14,7 @@ use tables::*;
 ghost use mathlib.Core.Path.{_≡_};
 ghost use Rattle.rows.specs.Sheet.{page0, page10, page11, tableOf};
 ghost use Rattle.rows.specs.Lookup.{mergedOf, knownOf, hasFormOf, codeOf, rowOf};
-ghost use Rattle.rows.specs.Quick.{rowAt, ofOperation, pageOf, absentOf};
+ghost use Rattle.rows.specs.Quick.{rowAt, ofOperation, pageOf};
 
 // What a table has at a place.
 enum Found {
@@ -209,17 +209,8 @@ pub enum Coded {
     Missing,
 }
 
-// Why there is no code: the operation or the form is unknown, or the operation lacks the form.
-fn absent(operation: u8, form: u8) -> Coded
-    ensures { λ r. ⌜ r ≡ absentOf operation form ⌝ }
-{
-    if known(operation) & (form < 7) {
-        return Coded::Missing;
-    }
-    Coded::Unknown
-}
-
-// The code of an operation in a form, read in the one table of its page and form.
+// The code of an operation in a form, read in the one table of its page and form. Where that has none, the operation lacks the form, or one of the
+// two is unknown.
 pub fn code_of(operation: u8, form: u8) -> Coded
     ensures { λ r. ⌜ r ≡ codeOf operation form ⌝ }
 {
@@ -232,7 +223,11 @@ pub fn code_of(operation: u8, form: u8) -> Coded
             page,
             code: (row / 256) as u8,
         },
-        Found::Nothing => absent(operation, form),
+        Found::Nothing => if known(operation) & (form < 7) {
+            Coded::Missing
+        } else {
+            Coded::Unknown
+        },
     }
 }
 

@@ -1,7 +1,11 @@
 -- `rows::code_of` meets its contract: the one table that it reads has the row, if any has.
 -- Assumes nothing.
-use mathlib.Core.Path.{_∙_, sym}
+use mathlib.Core.Path.{_∙_, sym, ap}
+use mathlib.Core.Bool.{Bool, true, false, _&&_}
 use native.Mathlib.Omega.{arith}
+use lib.Dec.{ltb}
+use Rattle.ground.proofs.Choices.{pick-true, pick-false, told}
+use Rattle.rows.specs.declared.Coded.the-variants.{Unknown, Missing}
 use Rattle.rows.proofs.Quick.{code-found}
 use borrow.Author.Needs.{needs}
 use Rattle.rows.proofs.code_of.Statement.{statement}
@@ -31,8 +35,8 @@ cast-t11 c = search needs
 enum-told : tie.Need-enum-told
 enum-told c = search needs
 
-absent-requires : tie.Need-absent-requires
-absent-requires c κs = search needs
+known-requires : tie.Need-known-requires
+known-requires c κs = search needs
 
 returns : tie.Need-returns
 returns c =
@@ -46,14 +50,27 @@ returns c =
 
 returns-2 : tie.Need-returns-2
 returns-2 c =
-    let a = c .before .before .before .before .before .before .before .before .args in
-    c .absent .ensures
+    let d = c .before .before in
+    let a = d .before .before .before .before .before .before .before .args in
+    sym (pick-true Missing Unknown (told true (ap (λ (k : Bool). k && ltb (a .form) 7) (c .before .known .ensures)) (c .if1 .taken)))
     ∙ code-found (a .operation) (a .form) _ _ _ _ _ (omega arith)
-    (c .before .before .before .before .before .before .before .merged .ensures)
-    (c .before .before .before .before .before .before .page-of .ensures)
-    (c .before .before .before .before .before .place-of-operation .ensures)
-    (c .before .before .before .before .row-at .ensures)
-    (sym (c .before .enum-told .given .1) ∙ c .before .before .before .of-operation .ensures)
+    (d .before .before .before .before .before .before .merged .ensures)
+    (d .before .before .before .before .before .page-of .ensures)
+    (d .before .before .before .before .place-of-operation .ensures)
+    (d .before .before .before .row-at .ensures)
+    (sym (d .enum-told .given .1) ∙ d .before .before .of-operation .ensures)
+
+returns-3 : tie.Need-returns-3
+returns-3 c =
+    let d = c .before .before in
+    let a = d .before .before .before .before .before .before .before .args in
+    sym (pick-false Missing Unknown (told false (ap (λ (k : Bool). k && ltb (a .form) 7) (c .before .known .ensures)) (c .if1 .left)))
+    ∙ code-found (a .operation) (a .form) _ _ _ _ _ (omega arith)
+    (d .before .before .before .before .before .before .merged .ensures)
+    (d .before .before .before .before .before .page-of .ensures)
+    (d .before .before .before .before .place-of-operation .ensures)
+    (d .before .before .before .row-at .ensures)
+    (sym (d .enum-told .given .1) ∙ d .before .before .of-operation .ensures)
 
 pub code-of-spec : {M : Type 1} → statement M
 code-of-spec =
@@ -67,6 +84,7 @@ code-of-spec =
     enum-known-found
     cast-t11
     enum-told
-    absent-requires
+    known-requires
     returns
-    returns-2)
+    returns-2
+    returns-3)
