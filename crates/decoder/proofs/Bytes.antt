@@ -22,6 +22,7 @@ use Rattle.postbytes.specs.declared.Pair.the-variants as pair
 use Rattle.postbytes.specs.Reading.{isDefined, shapeOf, extraOf, fillOf}
 use Rattle.postbytes.specs.Meanings.{Means}
 use Rattle.postbytes.specs.ListsRead.{registersOf, pairOf}
+use Rattle.postbytes.proofs.Told.{lacking-undefined}
 use Rattle.decoder.specs.declared.Origin.{Origin}
 use Rattle.decoder.specs.declared.operands.Rest.{Rest}
 use Rattle.decoder.specs.declared.operands.Reading.{Reading}
@@ -196,7 +197,7 @@ module _ (after : Origin) (l : List ℕ) where
       (λ z. by-test (Sized indexed l) (isDefined shape)
       (λ d. by-test (Sized indexed l) (ltb (length l) (1 + extraOf shape)) (λ _ y. absurd (omega arith))
       (λ q _. own-index (eqb-false (length l) 0 z) d (ltb-false (length l) (1 + extraOf shape) q)))
-      (λ _ y. absurd (omega arith)))
+      (λ d y. absurd (omega (arith, y, lacking-undefined shape d))))
 
 -- ---- a list of registers
 module _ (o : ℕ) where

@@ -6,23 +6,27 @@ use mathlib.Core.Bool.{true, false}
 use mathlib.Core.List.{List, [], _∷_, map}
 use Prim.Native.Nat.{ℕ}
 use lib.Dec.{eqb}
+use lib.ListN.{getD}
 use Rattle.ground.specs.Choice.{pick}
 use Rattle.ground.specs.Refusals.{undefined, cutShort, beyond}
 use Rattle.values.specs.Widths.{extended}
 use Rattle.rows.specs.Sheet.{page0, page10, page11, tableOf}
 use Rattle.rows.specs.Lookup.{rowOf}
 use Rattle.rows.specs.Sizes.{isWide, isLong, numberAt}
+use Rattle.postbytes.specs.declared.Addressing.{Addressing}
+use Rattle.postbytes.specs.declared.Addressing.the-variants as addressing
 use Rattle.postbytes.specs.Registers.{A, X, Y, U, S, DP}
-use Rattle.postbytes.specs.Reading.{directOnly, counterOnly, addressOnly, highOf, shapeOf}
+use Rattle.postbytes.specs.Reading.{directOnly, counterOnly, addressOnly, highOf, shapeOf, valuesOfAddressing}
 use Rattle.postbytes.specs.Lists.{otherOf, sizeOf}
 use Rattle.postbytes.specs.ListsRead.{registersOf, pairOf}
+use Rattle.decoder.specs.declared.Origin.{Origin}
 use Rattle.decoder.specs.declared.Decoded.{Decoded}
 use Rattle.decoder.specs.declared.Parts.{Parts}
 use Rattle.decoder.specs.declared.Kind.{Kind}
 use Rattle.decoder.specs.declared.Kind.the-variants.{None, Inherent, Immediate, Memory, Branch, Push, Pair, Offset, Counter, Accumulator, Step, Address}
 use Rattle.decoder.specs.Origin.{origin, shifted, outside, targetOf, directOf}
 use Rattle.decoder.specs.Meaning.{answer, refuse, joined, partsOf}
-use Rattle.decoder.specs.Operands.{numberOf, distanceOf, numberedOf, numberedAt, indexedAs, indexedAt, ownOf, registersAt, operandOf}
+use Rattle.decoder.specs.Operands.{numberOf, distanceOf, numberedOf, numberedAt, resolved, indexedAs, indexedAt, ownOf, registersAt, operandOf}
 use Rattle.decoder.specs.Front.{codedOf, frontOf, decodeOf}
 use Rattle.decoder.specs.Run.{runFrom, runOf, nextOf}
 
@@ -128,3 +132,12 @@ parts-tell (Counter ind t) = refl
 parts-tell (Accumulator r ind a) = refl
 parts-tell (Step r ind k) = refl
 parts-tell (Address a) = refl
+
+-- an indexed operand has the same number of its kind where its postbyte is read and in the instruction's meaning
+pub kinds-alike : (a : Addressing) (from : Origin) → getD (valuesOfAddressing a) 0 0 ≡ partsOf (resolved a from) .kind
+kinds-alike (addressing.Offset r ind n) from = refl
+kinds-alike (addressing.Counter ind n) from = refl
+kinds-alike (addressing.Accumulator r ind a) from = refl
+kinds-alike (addressing.Step r ind k) from = refl
+kinds-alike (addressing.Address a) from = refl
+kinds-alike addressing.Undefined from = refl

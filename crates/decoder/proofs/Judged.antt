@@ -21,6 +21,7 @@ use Rattle.postbytes.specs.declared.Pair.the-variants as pair
 use Rattle.postbytes.specs.Reading.{isDefined, shapeOf, extraOf}
 use Rattle.postbytes.specs.Lists.{sizeOf}
 use Rattle.postbytes.specs.ListsRead.{pairOf}
+use Rattle.postbytes.proofs.Told.{lacking-undefined}
 use Rattle.decoder.specs.declared.Origin.{Origin}
 use Rattle.decoder.specs.declared.Decoded.{Decoded}
 use Rattle.decoder.specs.declared.operands.Reading.{Reading}
@@ -83,7 +84,7 @@ module _ (after : Origin) where
           (b : Bool) →
           ltb (suc (length l)) (1 + extraOf (shapeOf p)) ≡ b →
           Operand (λ m. indexedAt (restOf m) after) (p ∷ l)
-      go false d b q = hopeless (λ t. rw (ne-eqb (suc (length (l ++ t))) 0 (omega arith), d))
+      go false d b q = hopeless (λ t. rw (ne-eqb (suc (length (l ++ t))) 0 (omega arith), d) (ap unread (lacking-undefined (shapeOf p) d)))
       go true d true q =
           unfinished (rw (ne-eqb (suc (length l)) 0 (omega arith), d, q)) (0 ∷ 0 ∷ [])
           (index-read (restOf (p ∷ l ++ 0 ∷ 0 ∷ [])) (omega arith) d (omega (arith, extra-small (shapeOf p), length-append l (0 ∷ 0 ∷ []))))

@@ -20,6 +20,7 @@ use Rattle.postbytes.specs.declared.Pair.{Pair}
 use Rattle.postbytes.specs.declared.Pair.the-variants as pair
 use Rattle.postbytes.specs.Reading.{isDefined, shapeOf, extraOf, fillOf}
 use Rattle.postbytes.specs.ListsRead.{pairOf}
+use Rattle.postbytes.proofs.Told.{lacking-undefined}
 use Rattle.decoder.specs.declared.Origin.{Origin}
 use Rattle.decoder.specs.declared.Kind.{Kind}
 use Rattle.decoder.specs.declared.Meaning.{Meaning}
@@ -70,7 +71,7 @@ operand-some o form size r after =
     (by-test Kinded (isDefined s)
     (λ d. by-pick Kinded (ltb (r .left) (1 + extraOf s)) (λ z. absurd (omega arith))
     (λ _. index-some s (r .second) (r .third) (shifted after (1 + extraOf s)) d))
-    (λ _ z. absurd (omega arith))))
+    (λ d z. absurd (omega (arith, z, lacking-undefined s d)))))
     (by-pick Kinded (eqb form forms.register)
     (by-pick Kinded (eqb (r .left) 0) (λ z. absurd (omega arith))
     (by-pick Kinded (isPair o) (pair-some (pairOf (r .first))) (λ _. omega arith)))

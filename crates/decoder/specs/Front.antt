@@ -4,10 +4,10 @@ use mathlib.Core.Bool.{Bool, _||_}
 use mathlib.Core.List.{List, [], _∷_}
 use lib.Dec.{eqb}
 use Rattle.ground.specs.Choice.{pick}
-use Rattle.ground.specs.Refusals.{undefined, cutShort, beyond}
+use Rattle.ground.specs.Refusals.{cutShort, beyond}
 use Rattle.rows.specs.declared.Named.{Named}
 use Rattle.rows.specs.declared.Named.the-variants.{Is, Undefined}
-use Rattle.rows.specs.Lookup.{rowOf}
+use Rattle.rows.specs.Lookup.{rowOf, refusalOfNamed}
 use Rattle.rows.specs.Sizes.{numberAt}
 use Rattle.decoder.specs.declared.Origin.{Origin}
 use Rattle.decoder.specs.declared.operands.Rest.{Rest}
@@ -24,7 +24,7 @@ isPrefix a = eqb a 0x10 || eqb a 0x11
 abbrev pub namedOf : Named → (page code size : ℕ) → Rest → Origin → Decoded
 namedOf (Is o form) page code size r from =
     joined size o (operandOf o form (numberAt form page code) r (shifted from size))
-namedOf Undefined page code size r from = refuse undefined
+namedOf Undefined page code size r from = refuse (refusalOfNamed Undefined)
 
 unfoldable pub codedOf : (page code size : ℕ) → Rest → Origin → Decoded
 codedOf page code size r from = namedOf (rowOf page code) page code size r from

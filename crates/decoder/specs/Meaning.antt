@@ -36,7 +36,7 @@ reading size kind = record { refusal = 0; size = size; kind = kind }
 abbrev pub unread : ℕ → Reading
 unread n = record { refusal = n; size = 0; kind = None }
 
--- an instruction of so many bytes; "a refusal hands back its number", and zeros
+-- an instruction of so many bytes; or a refusal, its number and zeros
 abbrev pub answer : (length operation : ℕ) → Kind → Decoded
 answer length operation kind =
     record { refusal = 0; length = length; meaning = record { operation = operation; kind = kind } }

@@ -6,7 +6,7 @@ use mathlib.Core.List.{List}
 use lib.Dec.{eqb, ltb, leb}
 use lib.ListN.{length, getD}
 use Rattle.ground.specs.Choice.{pick}
-use Rattle.ground.specs.Refusals.{undefined, cutShort}
+use Rattle.ground.specs.Refusals.{cutShort}
 use Rattle.ground.specs.Words.{low, word}
 use Rattle.values.specs.Widths.{extended}
 use Rattle.rows.specs.Forms as forms
@@ -16,8 +16,8 @@ use Rattle.postbytes.specs.declared.Addressing.the-variants as addressing
 use Rattle.postbytes.specs.declared.Pair as pair
 use Rattle.postbytes.specs.declared.Pair.the-variants as pairs
 use Rattle.postbytes.specs.Registers.{U, S}
-use Rattle.postbytes.specs.ListsRead.{registersOf, pairOf}
-use Rattle.postbytes.specs.Reading.{shapeOf, isDefined, extraOf, fillOf}
+use Rattle.postbytes.specs.ListsRead.{registersOf, pairOf, refusalOfPair}
+use Rattle.postbytes.specs.Reading.{shapeOf, refusalOfShape, isDefined, extraOf, fillOf}
 use Rattle.decoder.specs.declared.Origin.{Origin}
 use Rattle.decoder.specs.declared.operands.Rest.{Rest}
 use Rattle.decoder.specs.declared.operands.Reading.{Reading}
@@ -67,7 +67,7 @@ indexedAs s r after =
     pick (isDefined s)
     (pick (ltb (r .left) (1 + extraOf s)) (unread cutShort)
     (reading (1 + extraOf s) (resolved (fillOf s (r .second) (r .third)) (shifted after (1 + extraOf s)))))
-    (unread undefined)
+    (unread (refusalOfShape s))
 
 unfoldable pub indexedAt : Rest → Origin → Reading
 indexedAt r after = pick (eqb (r .left) 0) (unread cutShort) (indexedAs (shapeOf (r .first)) r after)
@@ -83,7 +83,7 @@ ownOf o = pick (leb 140 o) U S
 -- "14 for other EXG/TFR codes or unequal sizes"
 abbrev pub pairedAs : pair.Pair → Reading
 pairedAs (pairs.Is source destination) = reading 1 (Pair source destination)
-pairedAs pairs.Undefined = unread undefined
+pairedAs pairs.Undefined = unread (refusalOfPair pairs.Undefined)
 
 -- "Decoding reads every push list"; "registers (a set for pushes)"
 unfoldable pub registersAt : ℕ → Rest → Reading

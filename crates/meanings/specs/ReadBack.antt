@@ -1,4 +1,4 @@
--- What it is for an accepted build to be read back: "decoding the bytes followed by the suffix reads exactly the length and that meaning".
+-- What it is for an accepted build to be read back: its bytes, whatever follows them, are decoded as exactly its length and its meaning.
 use mathlib.Core.Path.{_≡_}
 use mathlib.Core.List.{List, _++_}
 use Prim.Native.Nat.{ℕ, _+_, _≤_}

@@ -2,41 +2,38 @@
 -- writing and reading share, the round trip cannot see.
 -- Assumes nothing.
 use mathlib.Core.Path.{_≡_, refl, sym, ap, _∙_}
-use mathlib.Core.Bool.{Bool, true, false}
+use mathlib.Core.Bool.{Bool, false}
 use mathlib.Core.List.{List, [], _∷_, _++_, map}
-use Prim.Native.Nat.{ℕ, zero, suc, _+_, _-_, _/_, _%_, _^_, _<_}
+use Prim.Native.Nat.{ℕ, zero, suc, _+_, _/_, _%_, _^_, _<_}
 use lib.Dec.{T, eqb, eqb→eq}
 use lib.ListN.{length, replicate}
 use Rattle.ground.specs.Choice.{pick}
+use Rattle.ground.specs.Refusals.{undefined}
 use Rattle.ground.proofs.Choices.{by-pick}
 use Rattle.ground.proofs.Ranges.{upto, below}
 use Rattle.values.specs.Widths.{extended}
 use Rattle.postbytes.specs.declared.Addressing.the-variants.{Offset}
-use Rattle.postbytes.specs.declared.Pair.{Pair}
-use Rattle.postbytes.specs.declared.Pair.the-variants.{Is, Undefined}
 use Rattle.postbytes.specs.Registers.{A, B, X, Y, U, S, PC, CC, DP}
 use Rattle.postbytes.specs.Lists.{otherOf, boxes, sizeOf}
-use Rattle.postbytes.specs.Reading.{directOnly, counterOnly, addressOnly, highOf, shapeOf, extraOf, fillOf, isDefined}
-use Rattle.postbytes.specs.ListsRead.{ticked, registersOf, pairOf}
+use Rattle.postbytes.specs.Reading.{directOnly, counterOnly, addressOnly, highOf, shapeOf, extraOf, fillOf, refusalOfShape, isDefined}
+use Rattle.postbytes.specs.ListsRead.{ticked, registersOf, pairOf, refusalOfPair}
 
 -- how many numbers below n pass a test
 abbrev pub countBelow : (ℕ → Bool) → ℕ → ℕ
 countBelow f zero = 0
 countBelow f (suc n) = pick (f n) 1 0 + countBelow f n
 
--- "205 postbytes are read, 51 refused"
-pub counted : (countBelow (λ p. isDefined (shapeOf p)) 256 ≡ 205) × (256 - countBelow (λ p. isDefined (shapeOf p)) 256 ≡ 51)
+-- "205 postbytes are read, 51 refused", with 14
+pub counted :
+    (countBelow (λ p. eqb (refusalOfShape (shapeOf p)) 0) 256 ≡ 205) × (countBelow (λ p. eqb (refusalOfShape (shapeOf p)) undefined) 256 ≡ 51)
 unfolding shapeOf highOf directOnly counterOnly addressOnly pick
 counted = (refl, refl)
 
-abbrev isPair : Pair → Bool
-isPair (Is s d) = true
-isPair Undefined = false
-
--- six registers of 16 bits and four of 8, each with each of its size
-pub pairs-counted : countBelow (λ p. isPair (pairOf p)) 256 ≡ 52
+-- six registers of 16 bits and four of 8, each with each of its size; "14 for other EXG/TFR codes or unequal sizes"
+pub pairs-counted :
+    (countBelow (λ p. eqb (refusalOfPair (pairOf p)) 0) 256 ≡ 52) × (countBelow (λ p. eqb (refusalOfPair (pairOf p)) undefined) 256 ≡ 204)
 unfolding pairOf sizeOf pick
-pairs-counted = refl
+pairs-counted = (refl, refl)
 
 -- every byte is a push list, and the 256 lists differ: the boxes of a set, ticked again, are the byte
 abbrev retick : List ℕ → ℕ → ℕ

@@ -4,6 +4,7 @@ pub mod Round
 pub mod Named
 pub mod ListsRound
 pub mod Counts
+pub mod Told
 pub mod Cases
 pub mod Only
 pub mod Bytes

@@ -1,8 +1,10 @@
 -- The sheet's table of indexed addressing, read: what a postbyte says, and what it means with the bytes after it.
 use Prim.Native.Nat.{ℕ, _+_, _/_, _%_}
 use mathlib.Core.Bool.{Bool, true, false, _&&_}
+use mathlib.Core.List.{List, [], _∷_}
 use lib.Dec.{eqb, ltb}
 use Rattle.ground.specs.Choice.{pick}
+use Rattle.ground.specs.Refusals.{undefined}
 use Rattle.ground.specs.Words.{word}
 use Rattle.values.specs.Widths.{extended}
 use Rattle.postbytes.specs.declared.Shape.{Shape}
@@ -78,6 +80,53 @@ fillOf (CounterByte ind) b c = addressing.Counter ind (extended 8 b)
 fillOf (CounterWord ind) b c = addressing.Counter ind (word b c)
 fillOf Address b c = addressing.Address (word b c)
 fillOf Undefined b c = addressing.Undefined
+
+-- 01's number for each answer of a postbyte, and its values: the kind of operand, as docs/ROWS.md numbers the kinds of meaning, the bits of its number, in
+-- the sheet's column of forms, and what stands in the postbyte itself, a flag as 0 or 1
+abbrev pub refusalOfShape : Shape → ℕ
+refusalOfShape (NoOffset r ind) = 0
+refusalOfShape (FiveBits r n) = 0
+refusalOfShape (OneByte r ind) = 0
+refusalOfShape (TwoBytes r ind) = 0
+refusalOfShape (Accumulator r ind a) = 0
+refusalOfShape (Step r ind k) = 0
+refusalOfShape (CounterByte ind) = 0
+refusalOfShape (CounterWord ind) = 0
+refusalOfShape Address = 0
+refusalOfShape Undefined = undefined
+
+abbrev pub flag : Bool → ℕ
+flag true = 1
+flag false = 0
+
+abbrev pub valuesOfShape : Shape → List ℕ
+valuesOfShape (NoOffset r ind) = 7 ∷ 0 ∷ r ∷ flag ind ∷ []
+valuesOfShape (FiveBits r n) = 7 ∷ 5 ∷ r ∷ n ∷ []
+valuesOfShape (OneByte r ind) = 7 ∷ 8 ∷ r ∷ flag ind ∷ []
+valuesOfShape (TwoBytes r ind) = 7 ∷ 16 ∷ r ∷ flag ind ∷ []
+valuesOfShape (Accumulator r ind a) = 9 ∷ 0 ∷ r ∷ flag ind ∷ a ∷ []
+valuesOfShape (Step r ind k) = 10 ∷ 0 ∷ r ∷ flag ind ∷ k ∷ []
+valuesOfShape (CounterByte ind) = 8 ∷ 8 ∷ flag ind ∷ []
+valuesOfShape (CounterWord ind) = 8 ∷ 16 ∷ flag ind ∷ []
+valuesOfShape Address = 11 ∷ 16 ∷ []
+valuesOfShape Undefined = []
+
+-- the same of a postbyte with the bytes after it: the kind, and what it uses
+abbrev pub refusalOfAddressing : Addressing → ℕ
+refusalOfAddressing (addressing.Offset r ind n) = 0
+refusalOfAddressing (addressing.Counter ind n) = 0
+refusalOfAddressing (addressing.Accumulator r ind a) = 0
+refusalOfAddressing (addressing.Step r ind k) = 0
+refusalOfAddressing (addressing.Address a) = 0
+refusalOfAddressing addressing.Undefined = undefined
+
+abbrev pub valuesOfAddressing : Addressing → List ℕ
+valuesOfAddressing (addressing.Offset r ind n) = 7 ∷ r ∷ flag ind ∷ n ∷ []
+valuesOfAddressing (addressing.Counter ind n) = 8 ∷ flag ind ∷ n ∷ []
+valuesOfAddressing (addressing.Accumulator r ind a) = 9 ∷ r ∷ flag ind ∷ a ∷ []
+valuesOfAddressing (addressing.Step r ind k) = 10 ∷ r ∷ flag ind ∷ k ∷ []
+valuesOfAddressing (addressing.Address a) = 11 ∷ a ∷ []
+valuesOfAddressing addressing.Undefined = []
 
 -- the sheet has this postbyte
 abbrev pub isDefined : Shape → Bool

@@ -140,7 +140,7 @@ coding o form p c e =
 coding-of : (o form p c : ℕ) → codeOf o form ≡ Code p c → Coding o form p c
 coding-of o form p c e = coding o form p c (code-is-placed o form p c e)
 
--- "reading the code of a row gives the row with aliases merged"
+-- reading the code of a row gives the row, aliases merged
 pub decoded : (o form p c : ℕ) → codeOf o form ≡ Code p c → rowOf p c ≡ Is (mergedOf o) form
 decoded o form p c e =
     let k = coding-of o form p c e in
@@ -195,7 +195,7 @@ naming : (p c o form : ℕ) → rowOf p c ≡ Is o form → Naming p c o form
 unfolding rowOf
 naming p c o form e = naming-among p c o form forms e
 
--- "every code read is the code of its row"
+-- every code that is read is the code of its row
 pub encoded : (p c o form : ℕ) → rowOf p c ≡ Is o form → codeOf o form ≡ Code p c
 encoded p c o form e =
     let k = naming p c o form e in

@@ -1,11 +1,16 @@
 -- `decoder::operands::indexed_at` meets its contract.
 -- Assumes nothing.
+use mathlib.Core.Path.{_∙_, sym, ap}
+use mathlib.Core.Bool.{false}
 use native.Mathlib.Omega.{arith}
 use borrow.Author.Tests.{not-true, not-false, lt-ltb, le-ltb, eq-eqb, ne-eqb}
 use borrow.Author.Needs.{needs}
+use Rattle.postbytes.proofs.Told.{lacking-undefined}
+use Rattle.decoder.specs.Meaning.{unread}
 use Rattle.decoder.specs.Operands.{indexedAs, indexedAt}
 use Rattle.decoder.proofs.Bounds.{extra-small}
 use Rattle.ground.specs.Choice.{pick}
+use Rattle.ground.proofs.Choices.{told}
 use Rattle.decoder.proofs.operands.indexed_at.Statement.{statement}
 use Rattle.decoder.proofs.operands.indexed_at.Tie as tie
 
@@ -27,12 +32,15 @@ refused-requires-2 c κs = search needs
 
 returns-2 : tie.Need-returns-2
 unfolding indexedAt indexedAs pick
-returns-2 c = rw (
-  ne-eqb _ _ (c .before .before .before .before .if1 .left),
-  ← c .before .before .before .shape-of .ensures,
-  ← c .before .before .is-defined .ensures,
-  not-true (c .before .before .is-defined .result) (c .before .if2 .taken),
-) (c .refused2 .ensures)
+returns-2 c =
+    let shape = c .before .before .before .shape-of .result in
+    let lacks = not-true (c .before .before .is-defined .result) (c .before .if2 .taken) in
+    rw (
+      ne-eqb _ _ (c .before .before .before .before .if1 .left),
+      ← c .before .before .before .shape-of .ensures,
+      ← c .before .before .is-defined .ensures,
+      lacks,
+    ) (c .refused2 .ensures ∙ ap unread (sym (lacking-undefined shape (told false (c .before .before .is-defined .ensures) lacks))))
 
 extra-of-requires : tie.Need-extra-of-requires
 extra-of-requires c κs = search needs
