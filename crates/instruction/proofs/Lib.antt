@@ -5,6 +5,7 @@ pub mod Ready
 pub mod Cases
 pub mod Rows
 pub mod Before
+pub mod Refuses
 pub mod Fits
 pub mod Sizes
 pub mod Only

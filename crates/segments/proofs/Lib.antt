@@ -1,5 +1,6 @@
 pub mod Laws
 pub mod Sorted
 pub mod Ends
+pub mod Refuses
 pub mod Cases
 pub mod Only
