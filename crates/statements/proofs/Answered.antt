@@ -24,7 +24,7 @@ use Rattle.statements.specs.Asking.{wantedOf, byteOf, wordOf, characterO
 use Rattle.statements.proofs.Firsts.{Ordered}
 
 -- ---- refusals
-known-ordered : (r : ℕ) → Known r → Ordered r
+pub known-ordered : (r : ℕ) → Known r → Ordered r
 unfolding placeOf pick
 known-ordered r (inl e) = inl e
 known-ordered r (inr (inl e)) = inr (rw e (omega arith))

@@ -5,6 +5,7 @@ pub mod Alone
 pub mod Firsts
 pub mod Answered
 pub mod Told
+pub mod Refuses
 pub mod Accepted
 pub mod Small
 pub mod Sizes
