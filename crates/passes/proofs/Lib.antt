@@ -7,5 +7,6 @@ pub mod Counted
 pub mod Rests
 pub mod Short
 pub mod Fine
+pub mod Never
 pub mod Cases
 pub mod Only
