@@ -41,11 +41,10 @@ use Rattle.instruction.proofs.Ready.{made-ready}
 abbrev pub Late : ℕ → Type 0
 Late n = (n ≡ 0) ⊎ ((valueMissing ≤ n) × (n ≤ branchTooFar))
 
--- ---- what a build settles on
+-- ---- what a build settles on, by form
 abbrev Chooses : Chosen → Type 0
 Chooses c = Late (c .refusal)
 
--- by form
 inherent-late : (i : Instruction) (v : Values) → Chooses (inherentOf i v)
 unfolding inherentOf
 inherent-late i v = by-pick Chooses (v .given) (inr (omega arith)) (inl refl)
@@ -90,7 +89,8 @@ index-late i v =
     (by-pick Chooses (not (eqb (o .count) 1) || notIndexing (registerAt o 0)) (inr (omega arith)) (inl refl)))
     (inl refl))))
 
--- a list of registers has a 1 of its own, for a number that is not known: an operand with such a list is not recognised
+-- writing a list has a 1 of its own, for a stack or a register that is not known: the stack is S or U, and an operand with such a register is not
+-- recognised
 own-stack : (o : ℕ) → notStack (ownStack o) ≡ false
 unfolding ownStack
 own-stack o = by-pick (λ (own : ℕ). notStack own ≡ false) (eqb o pshs || eqb o puls) refl refl
@@ -99,11 +99,10 @@ listed-late : (o : Operand) → strangeList (o .registers) (o .count) ≡ false 
 unfolding listedOf pairedOf pushOf pick
 listed-late o h =
     let P : Listed → Type 0 = λ l. Late (l .refusal) in
-    let rs = o .registers in
     by-pick P (isPair (o .operation))
     (rw h (by-pick P (not (eqb (o .count) 2) || not (eqb (sizeOf (registerAt o 0)) (sizeOf (registerAt o 1)))) (inr (omega arith)) (inl refl)))
     (rw (own-stack (o .operation), h)
-    (by-pick P (eqb (o .count) 0 || among (ownStack (o .operation)) (take (o .count) rs)) (inr (omega arith)) (inl refl)))
+    (by-pick P (eqb (o .count) 0 || among (ownStack (o .operation)) (take (o .count) (o .registers))) (inr (omega arith)) (inl refl)))
 
 registers-late : (i : Instruction) → strangeList (i .operand .registers) (i .operand .count) ≡ false → Chooses (registersOf i)
 unfolding registersOf
@@ -144,7 +143,7 @@ module _ (i : Instruction) (v : Values) (fine : sound i v ≡ true) (has : lacks
       early-late
 
 -- ---- a fresh build
--- what making refuses, or what was made is built
+-- it is refused as making is, or what was made is built
 fresh-tells : (r : Record) (address : ℕ) → (freshOf r address .refusal ≡ makeOf r .refusal) ⊎ Late (freshOf r address .refusal)
 unfolding freshOf freshFrom handed
 fresh-tells r address =

@@ -81,7 +81,7 @@ running-never n (inl (inr p)) e = let q = rw e at p in omega arith
 running-never n (inr b) e = omega arith
 
 module _ (src : Source) where
-  -- what is answered of a pass has another number
+  -- what is answered of a pass, settled or not, is another number
   pub answer-never : (made : ℕ) (ls zs : List ℕ) → answerOf made (passOf src ls zs .state) .refusal ≡ notSettled → ⊥
   unfolding answerOf
   answer-never made ls zs =

@@ -6,6 +6,7 @@ pub mod Firsts
 pub mod Answered
 pub mod Told
 pub mod Refuses
+pub mod Passed
 pub mod Accepted
 pub mod Small
 pub mod Sizes
