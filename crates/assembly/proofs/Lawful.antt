@@ -9,8 +9,7 @@ use lib.ListN.{length, drop}
 use borrow.Author.Tests.{le-ltb}
 use Rattle.ground.specs.Choice.{pick}
 use Rattle.ground.proofs.Tests.{neither-left, neither-right}
-use Rattle.expressions.proofs.Every.{Cells}
-use Rattle.expressions.proofs.Fits.{Short}
+use Rattle.expressions.specs.Numbers.{Cells, Short}
 use Rattle.records.specs.Objects as records
 use Rattle.records.specs.Objects.{fits, badValues, badObjects, faulty, tooFar}
 use Rattle.records.specs.Text.{textOf}

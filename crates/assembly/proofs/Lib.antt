@@ -1,6 +1,5 @@
 pub mod Tallies
 pub mod Turns
-pub mod Fitting
 pub mod Valued
 pub mod Places
 pub mod Texts

@@ -11,8 +11,7 @@ use Rattle.ground.specs.Refusals.{noRoom}
 use Rattle.ground.specs.Stores.{put}
 use Rattle.ground.proofs.Choices.{pick-true, pick-false}
 use Rattle.ground.proofs.Stores.{put-length}
-use Rattle.expressions.proofs.Every.{Cells}
-use Rattle.expressions.proofs.Fits.{Short}
+use Rattle.expressions.specs.Numbers.{Cells, Short}
 use Rattle.records.specs.Written.{bufferOf}
 use Rattle.passes.specs.Labels.{laidOver}
 use Rattle.passes.specs.Walks.{Source}

@@ -1,28 +1,18 @@
 -- What `assemble` answers, and what it leaves in the lent tables.
-use Prim.Native.Nat.{ℕ, zero, suc, _+_, _*_, _/_}
-use mathlib.Core.Bool.{Bool, true, _&&_, _||_}
+use Prim.Native.Nat.{ℕ, _/_}
+use mathlib.Core.Bool.{Bool, _&&_}
 use mathlib.Core.List.{List, _++_}
 use lib.Dec.{eqb, leb}
 use lib.ListN.{length, drop}
 use Rattle.ground.specs.Choice.{pick}
 use Rattle.ground.specs.Refusals.{noRoom}
-use Rattle.statements.specs.Listing.{none, labelAt}
-use Rattle.passes.specs.Labels.{laidOver}
+use Rattle.passes.specs.Labels.{laidOver, labelsFit}
 use Rattle.passes.specs.Walks.{Source}
 use Rattle.passes.specs.Passes.{passedOf, endedOf}
 use Rattle.assembly.specs.Objects.{objectsOf, valuesOf}
 use Rattle.assembly.specs.declared.Assembled.{Assembled}
 
 -- ---- "lent buffer too short"
--- statement i bears no label, or one whose row a label table of so many numbers wholly has
-unfoldable pub labelFits : List ℕ → ℕ → ℕ → Bool
-labelFits list cells i = eqb (labelAt list i) none || leb (labelAt list i * 3 + 3) cells
-
--- so it is with each of the first n statements
-unfoldable pub labelsFit : List ℕ → ℕ → ℕ → Bool
-labelsFit list cells zero = true
-labelsFit list cells (suc n) = labelFits list cells n && labelsFit list cells n
-
 -- every statement before the refused one fits: its object, its values and its label's row
 unfoldable pub fitting : Source → List ℕ → (objects values : ℕ) → Bool
 fitting src ls objects values =

@@ -4,11 +4,10 @@ mod tally;
 
 use ground::refusals::NO_ROOM;
 use output::emit;
+use passes::labels::labels_fit;
 use passes::labels::store_labels;
 use passes::settle_in;
 use records::write_text;
-use statements::listing::NONE;
-use statements::listing::label_at;
 ghost use mathlib.Core.Path.{_≡_};
 ghost use Prim.Native.Nat.{_≤_, _<_};
 ghost use lib.ListN.{length, take};
@@ -18,7 +17,7 @@ ghost use Rattle.passes.specs.Labels.{laidOver};
 ghost use Rattle.passes.specs.Walks.{source};
 ghost use Rattle.passes.specs.Passes.{workedTable};
 ghost use Rattle.assembly.specs.Objects.{objectsOf, valuesOf};
-ghost use Rattle.assembly.specs.Answers.{labelFits, labelsFit, refusalOf, refused, assembledOf, stored, labelled};
+ghost use Rattle.assembly.specs.Answers.{refusalOf, refused, assembledOf, stored, labelled};
 ghost use Rattle.assembly.specs.Text.{settledText, hexRefusal, unwritten, hexedOf};
 ghost use Rattle.assembly.specs.Steps.{firstPlace, objectsOn, valuesOn, planOf};
 
@@ -67,26 +66,6 @@ fn unwritten(refusal: u8, passes: u8) -> Hexed
         passes,
         length: 0,
     }
-}
-
-// The label of statement i, if it has one, has its row in a table of so many numbers.
-fn label_fits(list: &[u16], i: usize, cells: usize) -> bool
-    ensures { λ r. ⌜ r ≡ labelFits (now (list .entry)) cells i ⌝ }
-{
-    let label = label_at(list, i);
-    (label == NONE) | (label as usize * 3 + 3 <= cells)
-}
-
-fn labels_fit(list: &[u16], n: usize, cells: usize) -> bool
-    ensures { λ r. ⌜ r ≡ labelsFit (now (list .entry)) cells n ⌝ }
-{
-    let mut fit = true;
-    let mut left = n;
-    while 0 < left {
-        left -= 1;
-        fit = fit & label_fits(list, left, cells);
-    }
-    fit
 }
 
 // Settles the statements, and measures what those before the refused one take. A statement that does not fit stands before the refused one, so that

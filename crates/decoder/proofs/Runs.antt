@@ -18,7 +18,7 @@ use Rattle.decoder.specs.declared.Decoded.{Decoded}
 use Rattle.decoder.specs.Origin.{shifted, outside}
 use Rattle.decoder.specs.Meaning.{refuse}
 use Rattle.decoder.specs.Front.{frontOf}
-use Rattle.decoder.specs.Run.{runFrom, runOf, refusalIn, countedOf, nextOf}
+use Rattle.decoder.specs.Run.{runFrom, runOf, refusalIn, totalOf, countedOf, nextOf}
 use Rattle.decoder.proofs.Origins.{shift-zero, shift-shift}
 use Rattle.decoder.proofs.Instructions.{front-whole}
 
@@ -81,15 +81,11 @@ followed bytes l from d e z n =
     ∙ ap (λ (k : ℕ). d ∷ runFrom 0 l (shifted from k)) n
 
 -- ---- nothing is left over
-abbrev pub lengthsOf : List Decoded → ℕ
-lengthsOf [] = 0
-lengthsOf (d ∷ ds) = d .length + lengthsOf ds
-
 consumed :
     (k : ℕ) (l : List ℕ) (from : Origin) →
     k ≤ length l →
     refusalIn (runFrom k l from) ≡ 0 →
-    k + lengthsOf (runFrom k l from) ≡ length l
+    k + totalOf (runFrom k l from) ≡ length l
 unfolding runFrom pick
 consumed k [] from h z = omega arith
 consumed zero (b ∷ l) from h z =
@@ -102,16 +98,16 @@ consumed zero (b ∷ l) from h z =
         ((k : ℕ) →
         k ≤ length l →
         refusalIn (runFrom k l (shifted from 1)) ≡ 0 →
-        k + lengthsOf (runFrom k l (shifted from 1)) ≡ length l) →
+        k + totalOf (runFrom k l (shifted from 1)) ≡ length l) →
         refusalIn (pick (eqb (d .refusal) 0) (d ∷ runFrom (d .length - 1) l (shifted from 1)) (d ∷ [])) ≡ 0 →
-        0 + lengthsOf (pick (eqb (d .refusal) 0) (d ∷ runFrom (d .length - 1) l (shifted from 1)) (d ∷ [])) ≡ length (b ∷ l)
+        0 + totalOf (pick (eqb (d .refusal) 0) (d ∷ runFrom (d .length - 1) l (shifted from 1)) (d ∷ [])) ≡ length (b ∷ l)
     go d size next z₁ = by (eqb (d .refusal) 0) refl z₁
       where
         by :
             (t : Bool) →
             eqb (d .refusal) 0 ≡ t →
             refusalIn (pick t (d ∷ runFrom (d .length - 1) l (shifted from 1)) (d ∷ [])) ≡ 0 →
-            0 + lengthsOf (pick t (d ∷ runFrom (d .length - 1) l (shifted from 1)) (d ∷ [])) ≡ length (b ∷ l)
+            0 + totalOf (pick t (d ∷ runFrom (d .length - 1) l (shifted from 1)) (d ∷ [])) ≡ length (b ∷ l)
         by true q z₂ =
             let s = size (eqb-true (d .refusal) 0 q) in
             let f = next (d .length - 1) (omega arith) (rw q at z₂) in
@@ -120,21 +116,21 @@ consumed zero (b ∷ l) from h z =
 consumed (suc k) (b ∷ l) from h z = let f = consumed k l (shifted from 1) (omega arith) z in omega arith
 
 pub nothing-left :
-    (l : List ℕ) (from : Origin) → refusalIn (runFrom 0 l from) ≡ 0 → lengthsOf (runFrom 0 l from) ≡ length l
+    (l : List ℕ) (from : Origin) → refusalIn (runFrom 0 l from) ≡ 0 → totalOf (runFrom 0 l from) ≡ length l
 nothing-left l from z = let f = consumed 0 l from (omega arith) z in omega arith
 
 -- a run is consumed whole and its instructions are counted, or it is refused
 pub run-whole :
     (l : List ℕ) (from : Origin) →
     countedOf (runOf l from) .refusal ≡ 0 →
-    (countedOf (runOf l from) .count ≡ length (runOf l from)) × (lengthsOf (runOf l from) ≡ length l)
+    (countedOf (runOf l from) .count ≡ length (runOf l from)) × (totalOf (runOf l from) ≡ length l)
 unfolding countedOf runOf pick
 run-whole l from z = (pick-true (length (runOf l from)) 0 (eq-eqb (refusalIn (runOf l from)) 0 z), go (outside l from) z)
   where
     go :
         (t : Bool) →
         refusalIn (pick t (refuse beyond ∷ []) (runFrom 0 l from)) ≡ 0 →
-        lengthsOf (pick t (refuse beyond ∷ []) (runFrom 0 l from)) ≡ length l
+        totalOf (pick t (refuse beyond ∷ []) (runFrom 0 l from)) ≡ length l
     go true y = absurd (omega arith)
     go false y = nothing-left l from y
 

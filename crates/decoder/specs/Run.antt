@@ -1,5 +1,5 @@
 -- A run of bytes, read from its start: instruction after instruction, the first that is refused the last.
-use Prim.Native.Nat.{ℕ, zero, suc, _-_}
+use Prim.Native.Nat.{ℕ, zero, suc, _+_, _-_}
 use mathlib.Core.List.{List, [], _∷_}
 use lib.Dec.{eqb}
 use lib.ListN.{length, drop}
@@ -31,6 +31,11 @@ runOf l from = pick (outside l from) (refuse beyond ∷ []) (runFrom 0 l from)
 abbrev pub refusalIn : List Decoded → ℕ
 refusalIn [] = 0
 refusalIn (d ∷ ds) = pick (eqb (d .refusal) 0) (refusalIn ds) (d .refusal)
+
+-- how long instructions are together
+abbrev pub totalOf : List Decoded → ℕ
+totalOf [] = 0
+totalOf (d ∷ ds) = d .length + totalOf ds
 
 -- how many instructions; or the refusal and 0
 unfoldable pub countedOf : List Decoded → Counted

@@ -1,3 +1,4 @@
+pub mod Numbers
 pub mod Finding
 pub mod Answers
 pub mod Moving

@@ -17,8 +17,8 @@ use Rattle.decoder.specs.declared.Decoded.{Decoded}
 use Rattle.decoder.specs.Origin.{origin, shifted, outside}
 use Rattle.decoder.specs.Meaning.{refuse}
 use Rattle.decoder.specs.Front.{frontOf}
-use Rattle.decoder.specs.Run.{runFrom, runOf, refusalIn}
-use Rattle.decoder.proofs.Runs.{followed, lengthsOf}
+use Rattle.decoder.specs.Run.{runFrom, runOf, refusalIn, totalOf}
+use Rattle.decoder.proofs.Runs.{followed}
 use Rattle.instruction.specs.declared.Record.{Record}
 use Rattle.instruction.specs.Building.{bytesIn}
 use Rattle.meanings.specs.ReadBack.{readAs}
@@ -74,7 +74,7 @@ unfolding meaningsFrom
 as-many [] at = refl
 as-many (entry ∷ entries) at = ap suc (as-many entries (at + builtAt entry at .length))
 
-lengths-sum : (entries : List Record) (at : ℕ) → lengthsOf (meaningsFrom entries at) ≡ length (bytesFrom entries at)
+lengths-sum : (entries : List Record) (at : ℕ) → totalOf (meaningsFrom entries at) ≡ length (bytesFrom entries at)
 unfolding meaningsFrom bytesFrom
 lengths-sum [] at = refl
 lengths-sum (entry ∷ entries) at =
@@ -103,7 +103,7 @@ module _ (entries : List Record) (at room : ℕ) (bytes : List ℕ) (h : at ≤ 
   pub laid-whole :
       (refusalIn (runOf bytes (origin at)) ≡ 0)
       × (length (runOf bytes (origin at)) ≡ length entries)
-      × (lengthsOf (runOf bytes (origin at)) ≡ length bytes)
+      × (totalOf (runOf bytes (origin at)) ≡ length bytes)
   laid-whole =
       let f = laid-fits entries at room bytes h e in
       rw laid-decodes (all-accepted entries at, as-many entries at, lengths-sum entries at ∙ ap length (sym (f .1)))

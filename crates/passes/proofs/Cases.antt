@@ -26,9 +26,9 @@ use Rattle.statements.specs.Listing.{none, numberAt, statementOf, statementAt, 
 use Rattle.statements.specs.Asking.{askedOf, wantedOf}
 use Rattle.statements.specs.Effects.{ownLabel, entryRefusal, builtOf, instructionRefusal, instructionEffect, numberRefusal, reservedEffect, originEffect, effectAt, countedOf}
 use Rattle.passes.specs.declared.Settled.{Settled}
-use Rattle.passes.specs.Labels.{firstBearer, bearerOf, illOf, begunState, begunRows, begunTable, laidOver}
+use Rattle.passes.specs.Labels.{firstBearer, bearerOf, illOf, begunState, begunRows, begunTable, laidOver, labelFits, labelsFit}
 use Rattle.passes.specs.Walks.{source, marksOf, markedLabels, markedState, effectIn, sizedState, firstRefusal, judged, originState, advancedState, advancedStarts, markOf, resizeOf, advanceOf, doneOf, stepOf, walkOf, walkTo}
-use Rattle.passes.specs.Passes.{afterOf, settleOf, passedOf, overfullIn, tooMany, endedOf, settledOf, labelsAfter}
+use Rattle.passes.specs.Passes.{afterOf, settleOf, passedOf, overfullIn, tooMany, endedOf, settledRefusal, settledOf, labelsAfter}
 use Rattle.passes.specs.Passes as passes
 
 -- node 0 is 200, 1 label 0, 2 one, 3 one less label 0, 4 hexadecimal 1000, 5 FFFF, 6 label 1, 7 label 2, 8 hexadecimal 100
@@ -102,12 +102,23 @@ answered =
     ∷ []
 
 pub cases : map ask asked ≡ answered
-unfolding pick bitsOf validOf tableOf page0 page10 page11 mergedOf placed hasFormOf knownOf codeOf isWide isLong sizes.numberAt numberSizeOf longFrom longOf anyUnknown strangeList holdsOf inserted refusalOf addedTo tableAfter firstOf joined rowAt labelRow nodeIn labelIn nodeValue labelValue narrowOf valueOf answerOf pairOf evaluation evaluations stepped recognised narrower agreeing lawful sound onPage becomesDirect extendedForm formOf strays lacks needsValue longBranch branchOf chooseOf numberBytes operandBytes codeSize behindCode laidAt laidOf instructionOf madeAs makeOf operandRefusal earlyOf dirtiesOf acceptedOf finishedOf buildOf handed freshFrom freshOf placeOf earlier numberAt statementOf statementAt byteIn isFlag flagIn flaggedIn registersIn fieldsIn toldIn operandOf operandRow entryIn entryAt overfullAt askedOf wantedOf ownLabel entryRefusal builtOf instructionRefusal instructionEffect numberRefusal reservedEffect originEffect effectAt countedOf firstBearer bearerOf illOf begunState begunRows begunTable marksOf markedLabels markedState effectIn sizedState firstRefusal judged originState advancedState advancedStarts markOf resizeOf advanceOf doneOf stepOf walkOf walkTo passes.answerOf afterOf settleOf passedOf overfullIn tooMany endedOf settledOf
+unfolding pick bitsOf validOf tableOf page0 page10 page11 mergedOf placed hasFormOf knownOf codeOf isWide isLong sizes.numberAt numberSizeOf longFrom longOf anyUnknown strangeList holdsOf inserted refusalOf addedTo tableAfter firstOf joined rowAt labelRow nodeIn labelIn nodeValue labelValue narrowOf valueOf answerOf pairOf evaluation evaluations stepped recognised narrower agreeing lawful sound onPage becomesDirect extendedForm formOf strays lacks needsValue longBranch branchOf chooseOf numberBytes operandBytes codeSize behindCode laidAt laidOf instructionOf madeAs makeOf operandRefusal earlyOf dirtiesOf acceptedOf finishedOf buildOf handed freshFrom freshOf placeOf earlier numberAt statementOf statementAt byteIn isFlag flagIn flaggedIn registersIn fieldsIn toldIn operandOf operandRow entryIn entryAt overfullAt askedOf wantedOf ownLabel entryRefusal builtOf instructionRefusal instructionEffect numberRefusal reservedEffect originEffect effectAt countedOf firstBearer bearerOf illOf begunState begunRows begunTable marksOf markedLabels markedState effectIn sizedState firstRefusal judged originState advancedState advancedStarts markOf resizeOf advanceOf doneOf stepOf walkOf walkTo passes.answerOf afterOf settleOf passedOf overfullIn tooMany endedOf labelFits labelsFit settledRefusal settledOf
 cases = refl
 
 -- the lent table after the branch, and after a refusal
 pub tables :
     map (λ (list : List ℕ). labelsAfter (source list [] nodes) labels) ((bra 1 ++ rmb 0 ++ here) ∷ (here ++ here) ∷ [])
     ≡ (1 ∷ 203 ∷ 0 ∷ 2 ∷ 0 ∷ 7 ∷ 2 ∷ 0 ∷ 0 ∷ []) ∷ labels ∷ []
-unfolding pick bitsOf validOf tableOf page0 page10 page11 mergedOf placed hasFormOf knownOf codeOf isWide isLong sizes.numberAt numberSizeOf longFrom longOf anyUnknown strangeList holdsOf inserted refusalOf addedTo tableAfter firstOf joined rowAt labelRow nodeIn labelIn nodeValue labelValue narrowOf valueOf answerOf pairOf evaluation evaluations stepped recognised narrower agreeing lawful sound onPage becomesDirect extendedForm formOf strays lacks needsValue longBranch branchOf chooseOf numberBytes operandBytes codeSize behindCode laidAt laidOf instructionOf madeAs makeOf operandRefusal earlyOf dirtiesOf acceptedOf finishedOf buildOf handed freshFrom freshOf placeOf earlier numberAt statementOf statementAt byteIn isFlag flagIn flaggedIn registersIn fieldsIn toldIn operandOf operandRow entryIn entryAt overfullAt askedOf wantedOf ownLabel entryRefusal builtOf instructionRefusal instructionEffect numberRefusal reservedEffect originEffect effectAt countedOf firstBearer bearerOf illOf begunState begunRows begunTable marksOf markedLabels markedState effectIn sizedState firstRefusal judged originState advancedState advancedStarts markOf resizeOf advanceOf doneOf stepOf walkOf walkTo passes.answerOf afterOf settleOf passedOf overfullIn tooMany endedOf settledOf laidOver labelsAfter
+unfolding pick bitsOf validOf tableOf page0 page10 page11 mergedOf placed hasFormOf knownOf codeOf isWide isLong sizes.numberAt numberSizeOf longFrom longOf anyUnknown strangeList holdsOf inserted refusalOf addedTo tableAfter firstOf joined rowAt labelRow nodeIn labelIn nodeValue labelValue narrowOf valueOf answerOf pairOf evaluation evaluations stepped recognised narrower agreeing lawful sound onPage becomesDirect extendedForm formOf strays lacks needsValue longBranch branchOf chooseOf numberBytes operandBytes codeSize behindCode laidAt laidOf instructionOf madeAs makeOf operandRefusal earlyOf dirtiesOf acceptedOf finishedOf buildOf handed freshFrom freshOf placeOf earlier numberAt statementOf statementAt byteIn isFlag flagIn flaggedIn registersIn fieldsIn toldIn operandOf operandRow entryIn entryAt overfullAt askedOf wantedOf ownLabel entryRefusal builtOf instructionRefusal instructionEffect numberRefusal reservedEffect originEffect effectAt countedOf firstBearer bearerOf illOf begunState begunRows begunTable marksOf markedLabels markedState effectIn sizedState firstRefusal judged originState advancedState advancedStarts markOf resizeOf advanceOf doneOf stepOf walkOf walkTo passes.answerOf afterOf settleOf passedOf overfullIn tooMany endedOf labelFits labelsFit settledRefusal settledOf laidOver labelsAfter
 tables = refl
+
+-- a lent table of so many numbers, all 0
+abbrev room : List ℕ → ℕ → Settled
+room list cells = settledOf (source list [] nodes) (replicate cells 0)
+
+-- label 0 with no row, with one that is cut short, with a whole one; and behind a refused statement, where no 9 is looked for
+pub rooms :
+    room here 0 ∷ room here 2 ∷ room here 3 ∷ room (row 9 none none ++ here) 0 ∷ []
+    ≡ refused 9 1 ∷ refused 9 1 ∷ settled 1 0 ∷ refused 1 1 ∷ []
+unfolding pick labelRow rowAt placeOf earlier numberAt statementOf statementAt entryAt entryIn overfullAt ownLabel effectAt countedOf firstBearer bearerOf illOf begunState begunRows begunTable marksOf markedLabels markedState effectIn sizedState firstRefusal judged advancedState advancedStarts markOf resizeOf advanceOf doneOf stepOf walkOf walkTo passes.answerOf afterOf settleOf passedOf overfullIn tooMany endedOf labelFits labelsFit settledRefusal settledOf
+rooms = refl

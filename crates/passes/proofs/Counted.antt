@@ -14,9 +14,9 @@ use Rattle.ground.specs.Refusals.{notSettled, overLimit}
 use Rattle.ground.proofs.Choices.{pick-false, by-pick}
 use Rattle.passes.specs.declared.walk.State.{State}
 use Rattle.passes.specs.declared.Ended.{Ended}
-use Rattle.passes.specs.Labels.{begunTable}
+use Rattle.passes.specs.Labels.{begunTable, labelsFit}
 use Rattle.passes.specs.Walks.{Source}
-use Rattle.passes.specs.Passes.{passOf, ended, answerOf, outcome, Outcome, afterOf, settleOf, mostPasses, passedOf, tooMany, endedOf, settledOf, labelsAfter}
+use Rattle.passes.specs.Passes.{passOf, ended, answerOf, outcome, Outcome, afterOf, settleOf, mostPasses, passedOf, tooMany, endedOf, settledRefusal, settledOf, labelsAfter}
 use Rattle.passes.specs.Counts.{passAt, countOf}
 
 pub answer-passes : (made : ℕ) (s : State) → answerOf made s .passes ≡ made
@@ -88,7 +88,7 @@ module _ (src : Source) (ls : List ℕ) where
 
   -- "any other 17" has made none
   pub early : tooMany (src .list) (src .nodes) ≡ true → settledOf src ls ≡ record { refusal = overLimit; passes = 0; end = 0 }
-  unfolding settledOf endedOf pick
+  unfolding settledOf settledRefusal endedOf labelsFit pick
   early e = rw e
 
   pub count-most : settledOf src ls .passes ≤ mostPasses
@@ -103,10 +103,10 @@ module _ (src : Source) (ls : List ℕ) where
       tooMany (src .list) (src .nodes) ≡ false →
       ((k : ℕ) → k < mostPasses → passAt src k (begunTable (src .list) ls) (replicate 1024 0) .state .changed ≡ true) →
       settledOf src ls ≡ record { refusal = notSettled; passes = mostPasses; end = 0 }
-  unfolding settledOf endedOf passedOf pick
+  unfolding settledOf settledRefusal endedOf passedOf labelsFit pick
   not-settled e h = rw (e, never-settled src mostPasses 0 (begunTable (src .list) ls) (replicate 1024 0) h)
 
   -- a refusal leaves the lent label table
   pub refused-leaves : (settledOf src ls .refusal ≡ 0 → ⊥) → labelsAfter src ls ≡ ls
   unfolding settledOf labelsAfter
-  refused-leaves n = pick-false _ _ (ne-eqb (endedOf src ls .refusal) 0 n)
+  refused-leaves n = pick-false _ _ (ne-eqb (settledRefusal src ls) 0 n)

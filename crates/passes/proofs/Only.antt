@@ -13,6 +13,8 @@ use Rattle.passes.proofs.too_many.Kinds as too-many-kinds
 use Rattle.passes.proofs.too_many.Reads as too-many
 use Rattle.passes.proofs.labels.store_labels.Kinds as store-labels-kinds
 use Rattle.passes.proofs.labels.store_labels.Reads as store-labels
+use Rattle.passes.proofs.labels.labels_fit.Kinds as labels-fit-kinds
+use Rattle.passes.proofs.labels.labels_fit.Reads as labels-fit
 
 pub settle-single : SingleLeaving 4 settle-kinds.ps settle-kinds.r (λ κs s. now (s .1 .1 .1 .0)) settle.Post
 settle-single κs a x y s t p q = (p .0 ∙ sym (q .0), p .1 ∙ sym (q .1))
@@ -26,3 +28,6 @@ too-many-single κs a x y s t p q = p ∙ sym q
 
 pub store-labels-single : SingleLeaving 2 store-labels-kinds.ps store-labels-kinds.r (λ κs s. now (s .1 .0)) store-labels.Post
 store-labels-single κs a x y s t p q = (refl, p ∙ sym q)
+
+pub labels-fit-single : Single 1 labels-fit-kinds.ps labels-fit-kinds.r labels-fit.Post
+labels-fit-single κs a x y s t p q = p ∙ sym q

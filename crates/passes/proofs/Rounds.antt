@@ -8,18 +8,19 @@ use native.Mathlib.Numerals.{sub-one}
 use native.Mathlib.Omega.{arith}
 use lib.Dec.{ltb}
 use lib.ListN.{length, replicate}
-use borrow.Author.Tests.{eq-eqb, ne-eqb, ltb-false}
+use borrow.Author.Tests.{ne-eqb, ltb-false}
 use Rattle.ground.specs.Choice.{pick}
-use Rattle.ground.specs.Refusals.{notSettled, overLimit}
+use Rattle.ground.specs.Refusals.{noRoom, notSettled, overLimit}
 use Rattle.ground.specs.Stores.{put}
 use Rattle.ground.proofs.Tests.{neither-left}
 use Rattle.expressions.specs.Answers as expressions
 use Rattle.statements.specs.Listing.{rowsOf, overfullAt}
 use Rattle.passes.specs.declared.walk.State.{State}
 use Rattle.passes.specs.declared.Ended.{Ended}
-use Rattle.passes.specs.Labels.{begunTable, laidOver}
+use Rattle.passes.specs.declared.Settled.{Settled}
+use Rattle.passes.specs.Labels.{begunTable, laidOver, labelsFit}
 use Rattle.passes.specs.Walks.{Source}
-use Rattle.passes.specs.Passes.{passOf, ended, answerOf, outcome, afterOf, settleOf, mostPasses, passedOf, overfullIn, tooMany, endedOf, workedTable, workedSizes, settledOf, labelsAfter}
+use Rattle.passes.specs.Passes.{passOf, ended, answerOf, outcome, afterOf, settleOf, mostPasses, passedOf, overfullIn, tooMany, endedOf, workedTable, workedSizes, settledRefusal, settledOf, labelsAfter}
 use Rattle.passes.proofs.Tables.{begin-fills}
 
 -- the search for a statement that is too long, from the last one on
@@ -93,16 +94,28 @@ unfolding endedOf workedTable pick
 accepted-passed src ls table true e z = let f : _≡_ {A = ℕ} 17 0 = rw e at z in absurd (omega arith)
 accepted-passed src ls table false e z = rw e
 
-module _ (src : Source) (ls table t : List ℕ) (r : Ended) (p : r ≡ endedOf src ls) (q : t ≡ workedTable src ls table) where
-  abbrev pub Answers : List ℕ → Type 0
-  Answers ls′ = (record { refusal = r .refusal; passes = r .passes; end = r .end } ≡ settledOf src ls) × (ls′ ≡ labelsAfter src ls)
+module _
+    (src : Source) (ls table t : List ℕ) (r : Ended) (fit : Bool) (p : r ≡ endedOf src ls) (q : t ≡ workedTable src ls table)
+    (f : fit ≡ labelsFit (src .list) (length ls) (r .fine))
+  where
+    abbrev pub Answers : Settled → List ℕ → Type 0
+    Answers s ls′ = (s ≡ settledOf src ls) × (ls′ ≡ labelsAfter src ls)
 
-  pub settle-stored : (ls′ : List ℕ) → r .refusal ≡ 0 → ls′ ≡ laidOver t ls → Answers ls′
-  unfolding settledOf labelsAfter pick
-  settle-stored ls′ z f =
-      let w = q ∙ accepted-passed src ls table (tooMany (src .list) (src .nodes)) refl (ap (λ (x : Ended). x .refusal) (sym p) ∙ z) in
-      (rw (← p), rw (← p, eq-eqb _ _ z, ← w) f)
+    -- the definition's test
+    fits-as : (b : Bool) → fit ≡ b → labelsFit (src .list) (length ls) (endedOf src ls .fine) ≡ b
+    fits-as b e = rw (← p) (sym f ∙ e)
 
-  pub settle-kept : (r .refusal ≡ 0 → ⊥) → Answers ls
-  unfolding settledOf labelsAfter pick
-  settle-kept n = (rw (← p), rw (← p, ne-eqb _ _ n))
+    pub settle-short : fit ≡ false → Answers (record { refusal = noRoom; passes = r .passes; end = 0 }) ls
+    unfolding settledOf labelsAfter settledRefusal pick
+    settle-short e = (rw (fits-as false e, ← p), rw (fits-as false e))
+
+    pub settle-kept : fit ≡ true → (r .refusal ≡ 0 → ⊥) → Answers (record { refusal = r .refusal; passes = r .passes; end = 0 }) ls
+    unfolding settledOf labelsAfter settledRefusal pick
+    settle-kept e n = (rw (fits-as true e, ← p, ne-eqb _ _ n), rw (fits-as true e, ← p, ne-eqb _ _ n))
+
+    pub settle-stored :
+        (ls′ : List ℕ) → fit ≡ true → r .refusal ≡ 0 → ls′ ≡ laidOver t ls → Answers (record { refusal = 0; passes = r .passes; end = r .end }) ls′
+    unfolding settledOf labelsAfter settledRefusal pick
+    settle-stored ls′ e z l =
+        let w = q ∙ accepted-passed src ls table (tooMany (src .list) (src .nodes)) refl (ap (λ (x : Ended). x .refusal) (sym p) ∙ z) in
+        (rw (fits-as true e, ← p, z), rw (fits-as true e, ← p, z, ← w) l)

@@ -7,8 +7,8 @@ use lib.Dec.{eqb, ltb}
 use lib.ListN.{replicate}
 use Rattle.ground.proofs.Choices.{by-pick}
 use Rattle.expressions.specs.Finding.{labelRow}
-use Rattle.expressions.proofs.Every.{Cells, cells-set, label-node-has}
-use Rattle.expressions.proofs.Fits.{Short}
+use Rattle.expressions.specs.Numbers.{Cells, Short}
+use Rattle.expressions.proofs.Every.{cells-set, label-node-has}
 use Rattle.statements.specs.Listing.{rowsOf}
 use Rattle.passes.specs.Labels.{bearerOf, begunState, begunRows, begunTable}
 use Rattle.passes.specs.Walks.{Source, Walk, hereOf, cellOf, marksOf, markedLabels, markOf, resizeOf, advanceOf, doneOf, stepOf, walkOf, startOf, walkTo}

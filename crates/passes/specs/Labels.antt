@@ -1,8 +1,8 @@
 -- Whose each label is, and the label table before the first pass and after the last (01, "Labels, expressions, segments", "Passes").
-use Prim.Native.Nat.{ℕ, zero, suc, _+_}
-use mathlib.Core.Bool.{Bool, _&&_, _||_, not}
+use Prim.Native.Nat.{ℕ, zero, suc, _+_, _*_}
+use mathlib.Core.Bool.{Bool, true, _&&_, _||_, not}
 use mathlib.Core.List.{List, [], _∷_}
-use lib.Dec.{ltb, eqb}
+use lib.Dec.{ltb, leb, eqb}
 use Rattle.ground.specs.Choice.{pick}
 use Rattle.expressions.specs.Finding.{labelRow}
 use Rattle.statements.specs.Listing.{none, rowsOf, labelAt}
@@ -45,3 +45,13 @@ laidOver (s ∷ a ∷ n ∷ found) [] = []
 laidOver (s ∷ a ∷ n ∷ found) (x ∷ []) = x ∷ []
 laidOver (s ∷ a ∷ n ∷ found) (x ∷ y ∷ []) = x ∷ y ∷ []
 laidOver (s ∷ a ∷ n ∷ found) (x ∷ y ∷ z ∷ ls) = s ∷ a ∷ z ∷ laidOver found ls
+
+-- ---- "lent buffer too short"
+-- statement i bears no label, or one whose row a label table of so many numbers wholly has
+unfoldable pub labelFits : List ℕ → ℕ → ℕ → Bool
+labelFits list cells i = eqb (labelAt list i) none || leb (labelAt list i * 3 + 3) cells
+
+-- so it is with each of the first n statements
+unfoldable pub labelsFit : List ℕ → ℕ → ℕ → Bool
+labelsFit list cells zero = true
+labelsFit list cells (suc n) = labelFits list cells n && labelsFit list cells n

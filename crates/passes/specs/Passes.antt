@@ -2,16 +2,16 @@
 use Prim.Native.Nat.{ℕ, zero, suc, _+_}
 use mathlib.Core.Bool.{Bool, false, _||_}
 use mathlib.Core.List.{List}
-use lib.ListN.{replicate}
+use lib.ListN.{length, replicate}
 use lib.Dec.{ltb, eqb}
 use Rattle.ground.specs.Choice.{pick}
-use Rattle.ground.specs.Refusals.{notSettled, overLimit}
+use Rattle.ground.specs.Refusals.{noRoom, notSettled, overLimit}
 use Rattle.expressions.specs.Answers as expressions
 use Rattle.statements.specs.Listing.{rowsOf, overfullAt}
 use Rattle.passes.specs.declared.walk.State.{State}
 use Rattle.passes.specs.declared.Ended.{Ended}
 use Rattle.passes.specs.declared.Settled.{Settled}
-use Rattle.passes.specs.Labels.{begunTable, laidOver}
+use Rattle.passes.specs.Labels.{begunTable, laidOver, labelsFit}
 use Rattle.passes.specs.Walks.{Source, Walk, walkTo}
 
 -- one pass, from the label table and the sizes that the one before left
@@ -74,10 +74,19 @@ unfoldable pub workedSizes : Source → List ℕ → List ℕ → List ℕ
 workedSizes src ls sizes = pick (tooMany (src .list) (src .nodes)) sizes (passedOf src ls .sizes)
 
 -- ---- the answer to a caller
+-- statements in order: 9 where the label's row of a statement before the refused one does not fit, and else the passes' refusal, 0 for none
+unfoldable pub settledRefusal : Source → List ℕ → ℕ
+settledRefusal src ls =
+    pick (labelsFit (src .list) (length ls) (endedOf src ls .fine)) (endedOf src ls .refusal) noRoom
+
+-- that refusal, the passes made, and the address after the last statement, 0 beside a refusal
 unfoldable pub settledOf : Source → List ℕ → Settled
-settledOf src ls =
-    record { refusal = endedOf src ls .refusal; passes = endedOf src ls .passes; end = endedOf src ls .end }
+settledOf src ls = record {
+  refusal = settledRefusal src ls;
+  passes = endedOf src ls .passes;
+  end = pick (eqb (settledRefusal src ls) 0) (endedOf src ls .end) 0;
+}
 
 -- the lent label table then: the addresses found, or on a refusal what it held
 unfoldable pub labelsAfter : Source → List ℕ → List ℕ
-labelsAfter src ls = pick (eqb (endedOf src ls .refusal) 0) (laidOver (passedOf src ls .table) ls) ls
+labelsAfter src ls = pick (eqb (settledRefusal src ls) 0) (laidOver (passedOf src ls .table) ls) ls

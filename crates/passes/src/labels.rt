@@ -9,7 +9,7 @@ ghost use Prim.Native.Nat.{_*_, _<_, _≤_, min};
 ghost use lib.ListN.{replicate};
 ghost use Rattle.ground.specs.Stores.{put};
 ghost use Rattle.statements.specs.Listing.{rowsOf};
-ghost use Rattle.passes.specs.Labels.{illOf, begunTable, laidOver};
+ghost use Rattle.passes.specs.Labels.{illOf, begunTable, laidOver, labelFits, labelsFit};
 ghost use Rattle.passes.specs.Steps.{bearersOf, lentOf, stateOf, rowOf};
 
 const LAST_LABEL: u16 = 511;
@@ -120,4 +120,25 @@ fn lesser(a: usize, b: usize) -> usize
     ensures { λ r. ⌜ r ≡ min a b ⌝ }
 {
     if a < b { a } else { b }
+}
+
+// The label of statement i, if it has one, has its row in a table of so many numbers.
+fn label_fits(list: &[u16], i: usize, cells: usize) -> bool
+    ensures { λ r. ⌜ r ≡ labelFits (now (list .entry)) cells i ⌝ }
+{
+    let label = label_at(list, i);
+    (label == NONE) | (label as usize * 3 + 3 <= cells)
+}
+
+// So it is with each of the first n statements: no address that the passes find for them is lost.
+pub fn labels_fit(list: &[u16], n: usize, cells: usize) -> bool
+    ensures { λ r. ⌜ r ≡ labelsFit (now (list .entry)) cells n ⌝ }
+{
+    let mut fit = true;
+    let mut left = n;
+    while 0 < left {
+        left -= 1;
+        fit = fit & label_fits(list, left, cells);
+    }
+    fit
 }

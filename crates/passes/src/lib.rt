@@ -3,10 +3,12 @@ pub mod labels;
 mod walk;
 
 use expressions::too_many_nodes;
+use ground::refusals::NO_ROOM;
 use ground::refusals::NOT_SETTLED;
 use ground::refusals::OVER_LIMIT;
 use labels::begin;
 use labels::find_bearers;
+use labels::labels_fit;
 use labels::store_labels;
 use statements::listing::overfull;
 use statements::listing::rows_of;
@@ -40,7 +42,8 @@ pub struct Settled {
     pub end: u32,
 }
 
-// Settles the statements. The label table gets the addresses found, and on a refusal stays as it was.
+// Settles the statements. The label table gets the addresses found, and on a refusal stays as it was. A statement whose label has no row there stands
+// before the refused one, so that its 9 comes first.
 // The tables stand on the stack, 8,318 bytes in all: labels 3,072, sizes 4,096, first bearers 1,024, segment starts 126.
 pub fn settle(list: &[u16], items: &[u16], nodes: &[u16], labels: &mut [u16]) -> Settled
     ensures answer { λ r. ⌜ r ≡ settledOf (source (now (list .entry)) (now (items .entry)) (now (nodes .entry))) (now (labels .entry)) ⌝ }
@@ -49,11 +52,23 @@ pub fn settle(list: &[u16], items: &[u16], nodes: &[u16], labels: &mut [u16]) ->
     let mut table = [0u16; 1536];
     let mut sizes = [0u32; 1024];
     let ended = settle_in(list, items, nodes, labels, &mut table, &mut sizes);
-    if ended.refusal == 0 {
-        store_labels(&table, labels);
+    if !labels_fit(list, ended.fine, labels.len()) {
+        return Settled {
+            refusal: NO_ROOM,
+            passes: ended.passes,
+            end: 0,
+        };
     }
+    if ended.refusal != 0 {
+        return Settled {
+            refusal: ended.refusal,
+            passes: ended.passes,
+            end: 0,
+        };
+    }
+    store_labels(&table, labels);
     Settled {
-        refusal: ended.refusal,
+        refusal: 0,
         passes: ended.passes,
         end: ended.end,
     }

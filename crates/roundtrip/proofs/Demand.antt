@@ -11,10 +11,8 @@ use Rattle.records.specs.Text.{Rec, close}
 use Rattle.records.specs.Fine.{Bytes}
 use Rattle.records.proofs.Fine.{bytes-append}
 use Rattle.reader.specs.Answers.{runsIn}
-use Rattle.decoder.specs.declared.Decoded.{Decoded}
 use Rattle.decoder.specs.Origin.{origin, outside}
-use Rattle.decoder.specs.Run.{runFrom, runOf, refusalIn}
-use Rattle.decoder.proofs.Runs.{lengthsOf}
+use Rattle.decoder.specs.Run.{runFrom, runOf, refusalIn, totalOf}
 use Rattle.instruction.specs.declared.Record.{Record}
 use Rattle.instruction.specs.Building.{bytesIn}
 use Rattle.laying.specs.Entries.{rowsIn, entriesFrom, entriesOf}
@@ -24,7 +22,7 @@ use Rattle.laying.specs.Exactly.{bytesFrom}
 use Rattle.laying.specs.Meant.{meaningsFrom}
 use Rattle.laying.proofs.Exactly.{fits-laid, laid-exactly}
 use Rattle.laying.proofs.Decodes.{laid-decodes, laid-whole}
-use Rattle.roundtrip.specs.Demand.{decodedIn, backFrom, totalOf, DemandThree, TextsTell}
+use Rattle.roundtrip.specs.Demand.{decodedIn, backFrom, DemandThree, TextsTell}
 use Rattle.entries.proofs.Small.{fresh-bytes}
 use Rattle.roundtrip.proofs.Written.{object-written, object-run, object-read}
 
@@ -51,10 +49,6 @@ unfolding runOf outside runFrom
 one-decoded address [] h = sym (pick-false _ _ (le-ltb 65536 (address + 0) (omega arith)))
 one-decoded address (b ∷ bytes) h = append-nil (runOf (b ∷ bytes) (origin address))
 
-sizes : (ds : List Decoded) → totalOf ds ≡ lengthsOf ds
-sizes [] = refl
-sizes (d ∷ ds) = ap (λ (n : ℕ). d .length + n) (sizes ds)
-
 -- ---- what was laid: bytes, none beyond 65535, that decode to what the records mean
 pub record Taken (list : List ℕ) (address : ℕ) (bytes : List ℕ) : Type 0 where
   pub small : Bytes bytes
@@ -62,7 +56,7 @@ pub record Taken (list : List ℕ) (address : ℕ) (bytes : List ℕ) : Type 0 w
   pub decoded : runOf bytes (origin address) ≡ meaningsFrom (entriesOf list) address
   pub accepted : refusalIn (runOf bytes (origin address)) ≡ 0
   pub number : length (runOf bytes (origin address)) ≡ rowsIn list
-  pub whole : lengthsOf (runOf bytes (origin address)) ≡ length bytes
+  pub whole : totalOf (runOf bytes (origin address)) ≡ length bytes
 
 pub laid-taken : (list : List ℕ) (address room : ℕ) (bytes : List ℕ) → address < 65536 → layOf list address room ≡ laying.Bytes bytes → Taken list address bytes
 laid-taken list address room bytes h e =
@@ -93,7 +87,7 @@ demand-three list address room bytes h e =
       same = decoded ∙ t .decoded;
       number = ap length decoded ∙ t .number;
       accepted = ap refusalIn decoded ∙ t .accepted;
-      whole = ap totalOf decoded ∙ sizes (runOf bytes (origin address)) ∙ t .whole;
+      whole = ap totalOf decoded ∙ t .whole;
     }
 
 -- ---- one run tells its bytes, and its address where it has any

@@ -3,17 +3,16 @@
 -- left over. The meanings are demand 2's, from the records, never from bytes. Laying, writing, reading and decoding are what the public functions' contracts
 -- say: `layOf`, `writtenOf` and `textOf`, `readOf` and `runsIn`, `runOf`. A list with no row is laid as no byte: no run, no instruction, nothing left over.
 use mathlib.Core.Path.{_≡_}
-use mathlib.Core.List.{List, [], _∷_, _++_, map}
+use mathlib.Core.List.{List, [], _∷_, _++_}
 use Prim.Native.Nat.{ℕ, _≤_, _<_}
 use lib.ListN.{length}
-use Rattle.records.specs.Line.{sum}
 use Rattle.records.specs.Objects.{byteRows}
 use Rattle.records.specs.Text.{Rec, close, textOf}
 use Rattle.records.specs.Written.{writtenOf}
 use Rattle.reader.specs.Answers.{readOf, runsIn}
 use Rattle.decoder.specs.declared.Decoded.{Decoded}
 use Rattle.decoder.specs.Origin.{origin}
-use Rattle.decoder.specs.Run.{runOf, refusalIn}
+use Rattle.decoder.specs.Run.{runOf, refusalIn, totalOf}
 use Rattle.laying.specs.Entries.{rowsIn, entriesOf}
 use Rattle.laying.specs.Laying.{Bytes, layOf}
 use Rattle.laying.specs.Meant.{meaningsFrom}
@@ -35,10 +34,6 @@ decodedIn (r ∷ rs) = runOf (r .bytes) (origin (r .address)) ++ decodedIn rs
 -- what the text of bytes at an address reads back to
 unfoldable pub backFrom : ℕ → List ℕ → List Decoded
 backFrom address bytes = decodedIn (runsIn (textFor address bytes))
-
--- how long instructions are together
-abbrev pub totalOf : List Decoded → ℕ
-totalOf ds = sum (map (λ (d : Decoded). d .length) ds)
 
 -- ---- the demand
 pub record ReadsBack (list : List ℕ) (address : ℕ) (bytes : List ℕ) : Type 0 where

@@ -12,8 +12,7 @@ use lib.ListN.{length, length-append}
 use borrow.Author.Tests.{eq-eqb, eqb-true}
 use Rattle.ground.specs.Choice.{pick}
 use Rattle.ground.proofs.Choices.{pick-false, by-pick, by-test}
-use Rattle.expressions.proofs.Every.{Cells}
-use Rattle.expressions.proofs.Fits.{Short}
+use Rattle.expressions.specs.Numbers.{Cells, Short}
 use Rattle.records.specs.Objects as records
 use Rattle.records.specs.Objects.{Object, With}
 use Rattle.records.specs.Text.{close}

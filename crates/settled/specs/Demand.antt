@@ -5,13 +5,11 @@ use mathlib.Core.Bool.{true}
 use mathlib.Core.List.{List, []}
 use Prim.Native.Nat.{ℕ, _<_}
 use lib.ListN.{length}
-use Rattle.expressions.proofs.Every.{Cells}
-use Rattle.expressions.proofs.Fits.{Short}
+use Rattle.expressions.specs.Numbers.{Cells, Short}
 use Rattle.records.specs.Text.{close}
 use Rattle.reader.specs.Answers.{runsIn}
 use Rattle.decoder.specs.Origin.{origin}
-use Rattle.decoder.specs.Run.{runOf, refusalIn}
-use Rattle.decoder.proofs.Runs.{lengthsOf}
+use Rattle.decoder.specs.Run.{runOf, refusalIn, totalOf}
 use Rattle.laying.specs.Laying.{Bytes, layFrom}
 use Rattle.laying.specs.Exactly.{bytesFrom}
 use Rattle.laying.specs.Meant.{meaningsFrom}
@@ -35,7 +33,7 @@ pub record ReadsBack (src : Source) (ls : List ℕ) : Type 0 where
   -- "the same number of instructions", none refused, "and nothing left over"
   pub accepted : refusalIn (runOf (bytesIs src ls) (origin 0)) ≡ 0
   pub number : length (runOf (bytesIs src ls) (origin 0)) ≡ length (recordsIs src ls)
-  pub whole : lengthsOf (runOf (bytesIs src ls) (origin 0)) ≡ length (bytesIs src ls)
+  pub whole : totalOf (runOf (bytesIs src ls) (origin 0)) ≡ length (bytesIs src ls)
 
 -- of every list that settles with no refusal; every lent table holds numbers of 16 bits
 abbrev pub SettledDemand : Type 0

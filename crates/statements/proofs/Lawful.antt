@@ -13,8 +13,7 @@ use Rattle.values.specs.Widths.{bitsOf, widenedOf}
 use Rattle.expressions.specs.declared.Answer.{Answer}
 use Rattle.expressions.specs.Finding.{deepest, nodeValue}
 use Rattle.expressions.specs.Answers.{narrowOf, valueOf, answerOf, evaluation}
-use Rattle.expressions.proofs.Every.{Cells}
-use Rattle.expressions.proofs.Fits.{Short}
+use Rattle.expressions.specs.Numbers.{Cells, Short}
 use Rattle.records.specs.Fine.{Each}
 use Rattle.records.specs.Objects.{fits, badValues}
 use Rattle.records.proofs.ByteRows.{bytes-good}

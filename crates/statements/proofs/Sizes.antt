@@ -20,10 +20,10 @@ use Rattle.records.specs.Fine.{Each}
 use Rattle.records.specs.Objects.{bytesOf, dataOf}
 use Rattle.records.proofs.ByteRows.{byte-data-length}
 use Rattle.expressions.specs.declared.Answer.{Answer}
+use Rattle.expressions.specs.Numbers.{Cells, Short}
 use Rattle.expressions.specs.Finding.{deepest, nodeValue}
 use Rattle.expressions.specs.Answers.{narrowOf, valueOf, answerOf, evaluation}
-use Rattle.expressions.proofs.Every.{Cells}
-use Rattle.expressions.proofs.Fits.{Short, node-fits}
+use Rattle.expressions.proofs.Fits.{node-fits}
 use Rattle.instruction.specs.Building.{bytesIn}
 use Rattle.statements.specs.declared.Statement.{Statement}
 use Rattle.statements.specs.declared.Statement.the-variants.{Label, Instruction, Rmb, Fcb, Fdb, Fcc, Org, Unknown}

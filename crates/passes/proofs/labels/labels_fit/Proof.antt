@@ -1,13 +1,13 @@
--- `assembly::labels_fit` meets its contract. The loop's invariant: those passed fit and those left do, exactly where all do.
+-- `passes::labels::labels_fit` meets its contract. The loop's invariant: those passed fit and those left do, exactly where all do.
 -- Assumes nothing.
 use mathlib.Core.Path.{_≡_, refl, _∙_}
 use mathlib.Core.Bool.{_&&_}
 use native.Mathlib.Omega.{arith}
-use Rattle.assembly.specs.Answers.{labelsFit}
-use Rattle.assembly.proofs.Fitting.{fit-more, fit-end}
+use Rattle.passes.specs.Labels.{labelsFit}
+use Rattle.passes.proofs.Fitting.{fit-more, fit-end}
 use borrow.Author.Needs.{needs}
-use Rattle.assembly.proofs.labels_fit.Statement.{statement}
-use Rattle.assembly.proofs.labels_fit.Tie as tie
+use Rattle.passes.proofs.labels.labels_fit.Statement.{statement}
+use Rattle.passes.proofs.labels.labels_fit.Tie as tie
 
 abbrev Inv-loop : tie.InvT-loop
 Inv-loop list n cells fit₀ left₀ fit left = (fit && labelsFit list cells left) ≡ labelsFit list cells n

@@ -6,7 +6,7 @@ use mathlib.Core.List.{List}
 use Prim.Native.Nat.{ℕ, zero, suc, _-_, _≤_, _<_}
 use native.Mathlib.Numerals.{sub-one}
 use native.Mathlib.Omega.{arith}
-use Rattle.assembly.specs.Answers.{labelFits, labelsFit}
+use Rattle.passes.specs.Labels.{labelFits, labelsFit}
 
 both-assoc : (a b c : Bool) → ((a && b) && c) ≡ (a && (b && c))
 both-assoc true b c = refl

@@ -1,9 +1,9 @@
--- `assembly::label_fits` meets its contract.
+-- `passes::labels::label_fits` meets its contract.
 -- Assumes nothing.
-use Rattle.assembly.specs.Answers.{labelFits}
+use Rattle.passes.specs.Labels.{labelFits}
 use borrow.Author.Needs.{needs}
-use Rattle.assembly.proofs.label_fits.Statement.{statement}
-use Rattle.assembly.proofs.label_fits.Tie as tie
+use Rattle.passes.proofs.labels.label_fits.Statement.{statement}
+use Rattle.passes.proofs.labels.label_fits.Tie as tie
 
 label-at-requires : tie.Need-label-at-requires
 label-at-requires c κs = search needs
