@@ -52,11 +52,13 @@ module _ (src : Source) where
           let n : 64 - made ≡ suc (64 - (made + 1)) = omega arith in
           rw (n, ← p, e, q, r)
 
-      pub settle-stop : s .changed ≡ false → outcome (answerOf (made + 1) s) ls′ zs′ ≡ settleOf src (mostPasses - made) made ls zs
+      pub settle-stop :
+          (a : Ended) (k : ℕ) → a ≡ answerOf k s → k ≡ made + 1 → s .changed ≡ false →
+          outcome a ls′ zs′ ≡ settleOf src (mostPasses - made) made ls zs
       unfolding settleOf afterOf pick
-      settle-stop e =
+      settle-stop a k f c e =
           let n : 64 - made ≡ suc (64 - (made + 1)) = omega arith in
-          rw (n, ← p, e, q, r)
+          rw (n, f, c, ← p, e, q, r)
 
   pub settle-out :
       (made : ℕ) (ls zs : List ℕ) → mostPasses ≤ made → settleOf src (mostPasses - made) made ls zs ≡ outcome (ended notSettled made 0 0) ls zs

@@ -31,6 +31,12 @@ pub(crate) struct State {
     pub changed: bool,
 }
 
+// A statement whose label is marked: the walk then, and what the statement does.
+struct Marked {
+    state: State,
+    effect: Effect,
+}
+
 // The first of two refusals, 0 for none.
 fn earlier(a: u8, b: u8) -> u8
     ensures { λ r. ⌜ r ≡ firstRefusal a b ⌝ }
@@ -87,15 +93,33 @@ impl State {
         ill: bool,
     ) -> Effect
         requires { ⌜ ill ≡ illOf (now list) i ⌝ }
-        requires { ⌜ self .at ≤ 65536 ⌝ }
-        ensures answer { λ r. ⌜ r ≡ effectIn (source (now (list .entry)) (now (items .entry)) (now (nodes .entry))) (now (labels .entry)) i self ⌝ }
-        ensures bound { λ r. ⌜ self .at + r .size ≤ 65536 ⌝ }
+        ensures { λ r. ⌜ r ≡ effectIn (source (now (list .entry)) (now (items .entry)) (now (nodes .entry))) (now (labels .entry)) i self ⌝ }
     {
         let here = self.here();
         counted(
             self.at,
             effect(list, items, nodes, labels, i, here, self.dirty, ill),
         )
+    }
+
+    // The label is marked first, so that the statement's own operand sees it.
+    fn mark_and_ask(
+        self,
+        list: &[u16],
+        items: &[u16],
+        nodes: &[u16],
+        labels: &mut [u16],
+        i: usize,
+        ill: bool,
+    ) -> Marked
+        requires { ⌜ ill ≡ illOf (now list) i ⌝ }
+        ensures state { λ r. ⌜ r .state ≡ markedState (now (list .entry)) i self (now (labels .entry)) ⌝ }
+        ensures effect { λ r. ⌜ r .effect ≡ effectIn (source (now (list .entry)) (now (items .entry)) (now (nodes .entry))) (now (labels .exit)) i self ⌝ }
+        ensures table { λ _. ⌜ now (labels .exit) ≡ markedLabels (now (list .entry)) i self (now (labels .entry)) ⌝ }
+    {
+        let state = self.mark(list, i, ill, labels);
+        let effect = self.effect_of(list, items, nodes, labels, i, ill);
+        Marked { state, effect }
     }
 
     fn resize(self, sizes: &mut [u32], i: usize, e: Effect) -> Self
@@ -187,9 +211,10 @@ fn step(
     ensures bound { λ r. ⌜ r .at ≤ 65536 ⌝ }
 {
     let ill = is_ill(list, firsts, i);
-    let marked = s.mark(list, i, ill, labels);
-    let e = s.effect_of(list, items, nodes, labels, i, ill);
-    let sized = marked.resize(sizes, i, e);
+    let marked = s.mark_and_ask(list, items, nodes, labels, i, ill);
+    let state = marked.state;
+    let e = marked.effect;
+    let sized = state.resize(sizes, i, e);
     sized.advance(starts, i, e)
 }
 

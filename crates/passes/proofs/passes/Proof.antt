@@ -53,9 +53,10 @@ returns c =
     let turn = passed .before .before .before in
     let e = passed .pass .ensures in
     let o =
-    settle-stop _ _ _ _ _ _ _ (turn .loop-test .taken) (e .0) (e .1 .0) (e .1 .1) (not-true _ (c .before .if1 .taken))
+    settle-stop _ _ _ _ _ _ _ (omega (arith, turn .loop-test .taken)) (e .0) (e .1 .0) (e .1 .1) _ _ (c .answer .ensures) (omega arith)
+    (not-true _ (c .before .if1 .taken))
     ∙ turn .before .loop .inv .1 in
-    (c .answer .ensures ∙ ap (λ (x : Outcome). x .answer) o, (ap (λ (x : Outcome). x .table) o, ap (λ (x : Outcome). x .sizes) o))
+    (ap (λ (x : Outcome). x .answer) o, (ap (λ (x : Outcome). x .table) o, ap (λ (x : Outcome). x .sizes) o))
 
 loop-less : tie.Need-loop-less Inv-loop μ-loop
 loop-less c = search needs
@@ -67,7 +68,7 @@ loop-again c =
     let inv = turn .before .loop .inv in
     let e = passed .pass .ensures in (
       search needs,
-      settle-again _ _ _ _ _ _ _ (turn .loop-test .taken) (e .0) (e .1 .0) (e .1 .1) (not-false _ (c .if1 .left)) ∙ inv .1,
+      settle-again _ _ _ _ _ _ _ (omega (arith, turn .loop-test .taken)) (e .0) (e .1 .0) (e .1 .1) (not-false _ (c .if1 .left)) ∙ inv .1,
       passed .pass .kept .1 .1 .1 .1 .0 ∙ inv .2,
       passed .pass .kept .1 .1 .1 .1 .1 .0 ∙ inv .3,
     )
@@ -83,7 +84,7 @@ same-length-4 c = search needs
 
 returns-2 : tie.Need-returns-2 Inv-loop μ-loop
 returns-2 c =
-    let o = sym (settle-out _ _ _ _ (c .before .loop-test .left)) ∙ c .before .before .loop .inv .1 in
+    let o = sym (settle-out _ _ _ _ (omega (arith, c .before .loop-test .left))) ∙ c .before .before .loop .inv .1 in
     (c .refused .ensures ∙ ap (λ (x : Outcome). x .answer) o, (ap (λ (x : Outcome). x .table) o, ap (λ (x : Outcome). x .sizes) o))
 
 pub passes-spec : {M : Type 1} → statement M

@@ -1,5 +1,7 @@
 -- `passes::walk::step` meets its contract: its stages, each by its own contract, make the step.
 -- Assumes nothing.
+use Rattle.statements.proofs.Sizes.{counted-ends}
+use Rattle.passes.specs.Walks.{effectIn}
 use Rattle.passes.proofs.Turns.{same-address, step-joins}
 use borrow.Author.Needs.{needs}
 use Rattle.passes.proofs.walk.step.Statement.{statement}
@@ -10,25 +12,20 @@ is-ill-requires c κs =
     let start = c .before .before .before .before .before .before .before in
     (start .pre .0, start .pre .1 .1 .0)
 
-mark-requires : tie.Need-mark-requires
-mark-requires c κs = c .before .is-ill .ensures
-
-effect-of-requires : tie.Need-effect-of-requires
-effect-of-requires c κs =
-    let told = c .before .before .before .before .before in
-    (told .is-ill .ensures, told .before .before .before .before .before .before .before .before .pre .1 .1 .1)
+mark-and-ask-requires : tie.Need-mark-and-ask-requires
+mark-and-ask-requires c κs = search needs
 
 resize-requires : tie.Need-resize-requires
-resize-requires c κs = c .before .before .before .before .before .before .before .before .before .before .before .before .before .before .before .pre .1 .0
+resize-requires c κs = search needs
 
 advance-requires : tie.Need-advance-requires
+unfolding effectIn
 advance-requires c κs =
     let resized = c .before .before .before in
-    let effected = resized .before .before in
-    let marked = effected .before .before .before .before in
-    let start = marked .before .before .before .before .before .before .before .before .before .before in (
+    let asked = resized .before .before .before .before .before .before in
+    let start = asked .before .before .before .before .before .before .before .before .before .before in (
       start .pre .0,
-      rw (same-address _ _ _ _ _ _ _ _ (marked .mark .ensures .0) (resized .resize .ensures .0)) (effected .effect-of .ensures .1),
+      rw (same-address _ _ _ _ _ _ _ _ (asked .mark-and-ask .ensures .0) (resized .resize .ensures .0)) (rw (asked .mark-and-ask .ensures .1 .0) (counted-ends _ _ (start .pre .1 .1 .1))),
     )
 
 same-length : tie.Need-same-length
@@ -44,10 +41,9 @@ returns : tie.Need-returns
 returns c =
     let advanced = c .before .before in
     let resized = advanced .before .before .before .before in
-    let effected = resized .before .before in
-    let marked = effected .before .before .before .before in (
-      step-joins _ _ _ _ _ _ _ _ _ _ _ _ _ (marked .mark .ensures .0) (marked .mark .ensures .1) (effected .effect-of .ensures .0)
-          (resized .resize .ensures .0) (resized .resize .ensures .1) (advanced .advance .ensures .0) (advanced .advance .ensures .1 .0),
+    let asked = resized .before .before .before .before .before .before .mark-and-ask .ensures in (
+      step-joins _ _ _ _ _ _ _ _ _ _ _ _ _ (asked .0) (asked .1 .1) (asked .1 .0) (resized .resize .ensures .0) (resized .resize .ensures .1)
+          (advanced .advance .ensures .0) (advanced .advance .ensures .1 .0),
       advanced .advance .ensures .1 .1,
     )
 
@@ -56,8 +52,7 @@ step-spec =
     tie.close
     (tie.spec
     is-ill-requires
-    mark-requires
-    effect-of-requires
+    mark-and-ask-requires
     resize-requires
     advance-requires
     same-length

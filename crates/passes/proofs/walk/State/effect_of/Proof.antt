@@ -1,6 +1,5 @@
--- `passes::walk::State::effect_of` meets its contract, by those of what it calls; what is counted ends by 65536.
+-- `passes::walk::State::effect_of` meets its contract, by those of what it calls.
 -- Assumes nothing.
-use Rattle.statements.proofs.Sizes.{counted-ends}
 use Rattle.passes.specs.Walks.{effectIn}
 use borrow.Author.Needs.{needs}
 use Rattle.passes.proofs.walk.State.effect_of.Statement.{statement}
@@ -17,7 +16,7 @@ counted-requires c κs = search needs
 
 returns : tie.Need-returns
 unfolding effectIn
-returns c = (cc, rw (c .counted .ensures) (counted-ends _ _ (c .before .before .before .before .before .before .before .pre .1)))
+returns c = cc
 
 pub effect-of-spec : {M : Type 1} → statement M
 effect-of-spec = tie.close (tie.spec here-requires effect-requires counted-requires returns)
