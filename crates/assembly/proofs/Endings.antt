@@ -16,14 +16,14 @@ use Rattle.ground.proofs.Tests.{neither-left, both-first, both-second}
 use Rattle.ground.proofs.Stores.{put-front}
 use Rattle.passes.specs.declared.Ended.{Ended}
 use Rattle.statements.specs.Listing.{rowsOf}
-use Rattle.passes.specs.Labels.{laidOver}
+use Rattle.passes.specs.Labels.{laidOver, labelsFit}
 use Rattle.passes.specs.Walks.{Source}
 use Rattle.passes.specs.Passes.{passedOf, tooMany, endedOf, workedTable}
 use Rattle.assembly.specs.declared.Plan.{Plan}
 use Rattle.assembly.specs.declared.Assembled.{Assembled}
 use Rattle.assembly.specs.declared.output.Extent.{Extent}
 use Rattle.assembly.specs.Objects.{objectBuilt, valuesBuilt, addressAt, dirtyAt, gather, objectIn, valuesIn, objectsOf, valuesOf}
-use Rattle.assembly.specs.Answers.{labelsFit, fitting, refusalOf, refused, assembledOf, stored, labelled}
+use Rattle.assembly.specs.Answers.{fitting, refusalOf, refused, assembledOf, stored, labelled}
 use Rattle.assembly.specs.Text.{settledText}
 use Rattle.assembly.specs.Steps.{firstPlace, rowsOn, objectsOn, valuesOn, tallyOn, noTally, endOf, extentOf, planOf}
 use Rattle.assembly.proofs.Places.{first-place, rows-settled}

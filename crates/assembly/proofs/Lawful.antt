@@ -39,14 +39,14 @@ module _ (src : Source) (o : Outcome) (fine : ℕ) (all : (i : ℕ) → i < fine
   unfolding gather
   objects-near zero i h = refl
   objects-near (suc n) i h =
-      shape-near _ _ _ _ _ _ (stands-shape src o i (all i (omega arith))) (objectsFrom src o n (i + 1)) (valuesFrom src o n (i + 1))
+      shape-near _ _ _ _ _ _ _ (stands-shape src o i (all i (omega arith))) (objectsFrom src o n (i + 1)) (valuesFrom src o n (i + 1))
       (objects-near n (i + 1) (omega arith))
 
   objects-known : (n i : ℕ) → i + n ≤ fine → badObjects (length (valuesFrom src o n i) / 2) (objectsFrom src o n i) ≡ false
   unfolding gather
   objects-known zero i h = refl
   objects-known (suc n) i h =
-      shape-known _ _ _ _ _ _ (stands-shape src o i (all i (omega arith))) (objectsFrom src o n (i + 1)) (valuesFrom src o n (i + 1))
+      shape-known _ _ _ _ _ _ _ (stands-shape src o i (all i (omega arith))) (objectsFrom src o n (i + 1)) (valuesFrom src o n (i + 1))
       (objects-known n (i + 1) (omega arith))
 
   never-far : tooFar (records.objectsOf (objectsFrom src o fine 0) (valuesFrom src o fine 0)) ≡ false

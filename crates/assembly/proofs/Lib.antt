@@ -1,6 +1,7 @@
 pub mod Tallies
 pub mod Turns
 pub mod Valued
+pub mod Standing
 pub mod Places
 pub mod Texts
 pub mod Rows

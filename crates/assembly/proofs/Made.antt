@@ -57,7 +57,7 @@ module _ (src : Source) (o : Outcome) where
       records.objectsOf (objectIn src o i ++ rows) (valuesIn src o i ++ rest) ≡ madeIn src o i ++ records.objectsOf rows rest
   unfolding valuesIn valuesBuilt
   made-next i s rows rest =
-      by-kind _ _ _ _ _ _ (stands-shape src o i s) rows rest
+      by-kind _ _ _ _ _ _ _ (stands-shape src o i s) rows rest
       (λ os vs. records.objectsOf os vs ≡ madeIn src o i ++ records.objectsOf rows rest)
       (λ one _.
       objects-with _ _ (valuesIn src o i) rows rest (stands-shape src o i s .long)

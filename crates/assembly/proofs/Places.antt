@@ -5,21 +5,16 @@ use mathlib.Core.Bool.{Bool, false, _||_}
 use mathlib.Core.List.{List}
 use Prim.Native.Nat.{ℕ, zero, suc, _+_, _%_, _≤_, _<_}
 use native.Mathlib.Omega.{arith}
-use borrow.Author.Tests.{le-leb}
 use Rattle.ground.specs.Choice.{pick}
-use Rattle.ground.proofs.Choices.{pick-true}
 use Rattle.statements.specs.declared.Effect.{Effect}
-use Rattle.statements.specs.Effects.{effectAt, countedOf}
+use Rattle.statements.specs.Effects.{effectAt}
 use Rattle.passes.specs.Walks.{Source, walkTo, walkOf}
 use Rattle.passes.specs.Passes.{Outcome, passOf}
 use Rattle.passes.proofs.Fine.{settled-goes}
 use Rattle.assembly.specs.declared.output.Place.{Place}
 use Rattle.assembly.specs.Objects.{addressAt, dirtyAt, gather}
 use Rattle.assembly.specs.Steps.{doneAt, nextPlace, firstPlace, rowsOn}
-
-counted-whole : (at : ℕ) (e : Effect) → at + e .size ≤ 65536 → countedOf at e ≡ e
-unfolding countedOf
-counted-whole at e h = pick-true _ _ (le-leb (at + e .size) 65536 h)
+use Rattle.assembly.proofs.Standing.{counted-whole}
 
 module _ (src : Source) (o : Outcome) where
   -- where statement i stands

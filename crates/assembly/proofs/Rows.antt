@@ -20,9 +20,11 @@ use Rattle.assembly.specs.Steps.{started, grown, tallied}
 use Rattle.assembly.proofs.Tallies.{started-short}
 use Rattle.assembly.proofs.Texts.{ahead, ahead-start, ahead-bytes}
 
--- an object of a kind at an address: it has its count of values, with data as many bytes as its size says, and none otherwise
-pub record Shape (kind here count size : ℕ) (row values : List ℕ) : Type 0 where
-  pub says : row ≡ objectRow kind here count
+-- an object of a kind, which its row says to stand somewhere, of a statement at an address: it has its count of values, with data as many bytes as its size
+-- says and the statement's own address, and no values otherwise
+pub record Shape (kind here stands count size : ℕ) (row values : List ℕ) : Type 0 where
+  pub says : row ≡ objectRow kind stands count
+  pub own : kind ≡ 1 → stands ≡ here
   pub long : length values ≡ 2 * count
   pub near : here + size ≤ 65536
   pub shown :
@@ -56,26 +58,27 @@ tallied-without : (kind here size : ℕ) (t : Tally) → (kind ≡ 1 → ⊥) �
 unfolding tallied
 tallied-without kind here size t h = pick-false _ _ (ne-eqb kind 1 h)
 
-module _ (kind here count size : ℕ) (row values : List ℕ) (s : Shape kind here count size row values) (rows rest : List ℕ) where
+module _ (kind here stands count size : ℕ) (row values : List ℕ) (s : Shape kind here stands count size row values) (rows rest : List ℕ) where
   -- the three cases of an object: with data, without, and none
   pub by-kind :
       (P : List ℕ → List ℕ → Type 0) →
       (kind ≡ 1 → length (dataOf values) ≡ size → P (1 ∷ here ∷ count ∷ rows) (values ++ rest)) →
-      (kind ≡ 0 → P (0 ∷ here ∷ count ∷ rows) rest) →
+      (kind ≡ 0 → P (0 ∷ stands ∷ count ∷ rows) rest) →
       (kind ≡ none → P rows rest) →
       P (row ++ rows) (values ++ rest)
   by-kind P with-data without nothing =
       ⊎-elim
       (λ (one : (kind ≡ 1) × (length (dataOf values) ≡ size)).
       let r : row ≡ 1 ∷ here ∷ count ∷ [] =
-      s .says ∙ row-there kind here count (λ e. omega (arith, one .0)) ∙ ap (λ (k : ℕ). k ∷ here ∷ count ∷ []) (one .0) in
+      s .says ∙ row-there kind stands count (λ e. omega (arith, one .0)) ∙ ap (λ (k : ℕ). k ∷ stands ∷ count ∷ []) (one .0)
+      ∙ ap (λ (a : ℕ). 1 ∷ a ∷ count ∷ []) (s .own (one .0)) in
       rw r (with-data (one .0) (one .1)))
       (λ (other : ((kind ≡ 0) ⊎ (kind ≡ none)) × (values ≡ [])).
       ⊎-elim
       (λ (z : kind ≡ 0).
-      let r : row ≡ 0 ∷ here ∷ count ∷ [] = s .says ∙ row-there kind here count (λ e. omega arith) ∙ ap (λ (k : ℕ). k ∷ here ∷ count ∷ []) z in
+      let r : row ≡ 0 ∷ stands ∷ count ∷ [] = s .says ∙ row-there kind stands count (λ e. omega arith) ∙ ap (λ (k : ℕ). k ∷ stands ∷ count ∷ []) z in
       rw (r, other .1) (without z))
-      (λ (e : kind ≡ none). rw (s .says ∙ row-none kind here count e, other .1) (nothing e))
+      (λ (e : kind ≡ none). rw (s .says ∙ row-none kind stands count e, other .1) (nothing e))
       (other .0))
       (s .shown)
 
@@ -92,7 +95,7 @@ module _ (kind here count size : ℕ) (row values : List ℕ) (s : Shape kind he
       ∙ ap (λ (n : ℕ). ahead (grown n (started here t)) (events (objectsOf rows rest))) long
       ∙ ap (λ (u : Tally). ahead u (events (objectsOf rows rest))) (sym (ap (λ (k : ℕ). tallied k here size t) one ∙ tallied-with here size t)))
       (λ z.
-      ap (λ (os : List Object). ahead t (events os)) (objects-without here count rows rest)
+      ap (λ (os : List Object). ahead t (events os)) (objects-without stands count rows rest)
       ∙ ap (λ (u : Tally). ahead u (events (objectsOf rows rest))) (sym (tallied-without kind here size t (λ e. omega arith))))
       (λ z. ap (λ (u : Tally). ahead u (events (objectsOf rows rest))) (sym (tallied-without kind here size t (λ e. omega arith))))
 
@@ -103,7 +106,7 @@ module _ (kind here count size : ℕ) (row values : List ℕ) (s : Shape kind he
       (λ one long.
       ap tooFar (objects-with here count values rows rest (s .long))
       ∙ rw (le-ltb 65536 (here + length (dataOf values)) (omega (arith, s .near))) f)
-      (λ z. ap tooFar (objects-without here count rows rest) ∙ f)
+      (λ z. ap tooFar (objects-without stands count rows rest) ∙ f)
       (λ z. f)
 
   -- its kind is known, and it counts no more values than there are

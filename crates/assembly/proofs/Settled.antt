@@ -23,9 +23,10 @@ use Rattle.passes.proofs.Fine.{fine-most}
 use Rattle.passes.proofs.Rests.{Rests, Ends, settle-rests}
 use Rattle.assembly.specs.declared.output.Place.{Place}
 use Rattle.assembly.specs.declared.tally.Tally.{Tally}
-use Rattle.assembly.specs.Objects.{kindAt, valuesBuilt, objectBuilt, addressAt, dirtyAt, objectIn, valuesIn, gather, objectsFrom, valuesFrom}
+use Rattle.assembly.specs.Objects.{kindAt, valuesBuilt, standsAt, objectBuilt, addressAt, dirtyAt, objectIn, valuesIn, gather, objectsFrom, valuesFrom}
 use Rattle.assembly.specs.Steps.{firstPlace, tallied, tallyOn, noTally, endOf}
 use Rattle.assembly.proofs.Valued.{values-kinds}
+use Rattle.assembly.proofs.Standing.{with-data-stays}
 use Rattle.assembly.proofs.Places.{place, first-place, own, Stands, stands, done-own, place-next}
 use Rattle.assembly.proofs.Tallies.{tallied-short}
 use Rattle.assembly.proofs.Texts.{ahead, ahead-end, text-length}
@@ -35,13 +36,15 @@ module _ (src : Source) (o : Outcome) where
   -- the object of a statement that is not refused
   pub stands-shape :
       (i : ℕ) → Stands src o i →
-      Shape (kindAt (src .list) i) (addressAt src o i % 65536) (countIn (valuesIn src o i)) (own src o i .size) (objectIn src o i) (valuesIn src o i)
+      Shape (kindAt (src .list) i) (addressAt src o i % 65536) (standsAt (own src o i) (addressAt src o i % 65536)) (countIn (valuesIn src o i))
+      (own src o i .size) (objectIn src o i) (valuesIn src o i)
   unfolding objectIn objectBuilt valuesIn valuesBuilt
   stands-shape i s =
       let here = addressAt src o i % 65536 in
       let dirty = dirtyAt src o i in
       record {
         says = refl;
+        own = with-data-stays (src .list) (src .items) (src .nodes) (o .table) i here dirty false;
         long = values-length (src .list) (src .items) (src .nodes) (o .table) i here dirty;
         near = omega (arith, s .near);
         shown =
@@ -61,7 +64,7 @@ module _ (src : Source) (o : Outcome) where
         let s = all i (omega arith) in
         let shape = stands-shape i s in
         let u = tallied (kindAt (src .list) i) (addressAt src o i % 65536) (own src o i .size) t in
-        shape-ahead _ _ _ _ _ _ shape (objectsFrom src o n (i + 1)) (valuesFrom src o n (i + 1)) t h
+        shape-ahead _ _ _ _ _ _ _ shape (objectsFrom src o n (i + 1)) (valuesFrom src o n (i + 1)) t h
         ∙ tally-settled n (i + 1) u (tallied-short _ _ _ t h (omega (arith, shape .near)) .0) (omega arith)
         ∙ rw (place-next src o i s, done-own src o i s)
 

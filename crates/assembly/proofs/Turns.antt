@@ -1,7 +1,7 @@
 -- The walk that puts out the objects: one turn, and what holds at each.
 -- Assumes nothing.
 use mathlib.Core.Path.{_≡_, refl, sym, ap, _∙_}
-use mathlib.Core.Bool.{Bool}
+use mathlib.Core.Bool.{Bool, false}
 use mathlib.Core.List.{List, [], _∷_, _++_}
 use Prim.Native.Nat.{ℕ, zero, suc, _+_, _-_, _*_, _%_, _≤_, _<_}
 use native.Mathlib.Numerals.{sub-one}
@@ -17,8 +17,9 @@ use Rattle.assembly.specs.declared.output.Place.{Place}
 use Rattle.assembly.specs.declared.output.Going.{Going}
 use Rattle.assembly.specs.declared.output.Extent.{Extent}
 use Rattle.assembly.specs.declared.tally.Tally.{Tally}
-use Rattle.assembly.specs.Objects.{kindAt, objectRow, valuesBuilt, objectBuilt}
+use Rattle.assembly.specs.Objects.{kindAt, objectRow, valuesBuilt, standsAt, objectBuilt}
 use Rattle.assembly.specs.Steps.{doneAt, nextPlace, firstPlace, rowsOn, objectsOn, valuesOn, tallied, tallyOn, noTally, endOf, extentOf, Ready, Stepped}
+use Rattle.assembly.proofs.Standing.{counted-stands}
 
 -- ---- one statement
 -- a row of three numbers
@@ -28,24 +29,31 @@ row-stored {at = at} p q r = record { next = refl; buffer = let two : at + 1 + 1
 
 -- the parts of a step make the step
 pub step-joins :
-    {src : Source} {ls : List ℕ} {i : ℕ} {s : Going} {os vs os′ vs′ : List ℕ} {count kind after : ℕ} {e : Effect} {next : Place} {tally : Tally} →
+    {src : Source} {ls : List ℕ} {i : ℕ} {s : Going} {os vs os′ vs′ : List ℕ} {count kind stands after : ℕ} {e : Effect} {next : Place} {tally : Tally} →
+    s .place .at ≤ 65536 →
     count ≡ countIn (valuesBuilt src ls i (s .place .at) (s .place .dirty)) →
     vs′ ≡ put vs (s .values) (valuesBuilt src ls i (s .place .at) (s .place .dirty)) →
     count ≤ 65535 →
     kind ≡ kindAt (src .list) i →
-    Wrote os (s .objects) (objectRow kind (s .place .at % 65536) count) after os′ →
-    after ≤ s .objects + 3 →
     e ≡ doneAt src ls i (s .place) →
+    stands ≡ standsAt e (s .place .at % 65536) →
+    Wrote os (s .objects) (objectRow kind stands count) after os′ →
+    after ≤ s .objects + 3 →
     next ≡ nextPlace e (s .place) →
     next .at ≤ 65536 →
     tally ≡ tallied kind (s .place .at % 65536) (e .size) (s .tally) →
     (tally .held < 32) × (tally .length ≤ s .tally .length + 200000) →
     Stepped src ls i s os vs (record { place = next; objects = after; values = s .values + 2 * count; tally = tally }) os′ vs′
-unfolding objectBuilt valuesBuilt
-step-joins {src} {ls} {i} {s} {count = count} {kind} counted stored most known object few done next near tallied bounds = record {
+unfolding objectBuilt valuesBuilt doneAt
+step-joins {src} {ls} {i} {s} {count = count} {kind} ready counted stored most known done there object few next near tallied bounds = record {
   place = rw (← done) next;
   tally = rw (← done, ← known) tallied;
-  objects = rw (← known, ← counted) object;
+  objects =
+      let here = s .place .at % 65536 in
+      let address =
+      there ∙ ap (λ (x : Effect). standsAt x here) done
+      ∙ counted-stands (src .list) (src .items) (src .nodes) ls i here (s .place .dirty) false (s .place .at) ready in
+      rw (← known, ← counted, ← address) object;
   values = record {
     next = omega (arith, counted, values-length (src .list) (src .items) (src .nodes) ls i (s .place .at % 65536) (s .place .dirty));
     buffer = stored;

@@ -1,11 +1,13 @@
 -- The objects of the settled pass, in the rows that the record writer takes (docs/ROWS.md). 01, "Passes": a settled pass's "bytes, or its first refusal, are
 -- the answer".
 use Prim.Native.Nat.{ℕ, zero, suc, _+_, _%_}
-use mathlib.Core.Bool.{Bool}
+use mathlib.Core.Bool.{Bool, false}
 use mathlib.Core.List.{List, [], _∷_, _++_}
 use lib.Dec.{eqb}
 use Rattle.ground.specs.Choice.{pick}
+use Rattle.statements.specs.declared.Effect.{Effect}
 use Rattle.statements.specs.Listing.{none, statementAt, objectOf}
+use Rattle.statements.specs.Effects.{effectAt}
 use Rattle.statements.specs.Objects.{valuesAt, countIn}
 use Rattle.passes.specs.Walks.{Source, walkTo}
 use Rattle.passes.specs.Passes.{Outcome, passedOf, endedOf}
@@ -23,9 +25,16 @@ objectRow kind address count = pick (eqb kind none) [] (kind ∷ address ∷ cou
 unfoldable pub valuesBuilt : Source → List ℕ → ℕ → ℕ → Bool → List ℕ
 valuesBuilt src ls i at dirty = valuesAt (src .list) (src .items) (src .nodes) ls i (at % 65536) dirty
 
+-- where the object stands of a statement that does this at a location: an ORG's where the ORG moves to, any other at the location
+unfoldable pub standsAt : Effect → ℕ → ℕ
+standsAt e here = pick (e .moves) (e .to) here
+
 -- its object; at 65536 only what has no length can stand, and its address is 0 like the location there
 unfoldable pub objectBuilt : Source → List ℕ → ℕ → ℕ → Bool → List ℕ
-objectBuilt src ls i at dirty = objectRow (kindAt (src .list) i) (at % 65536) (countIn (valuesBuilt src ls i at dirty))
+objectBuilt src ls i at dirty =
+    objectRow (kindAt (src .list) i)
+    (standsAt (effectAt (src .list) (src .items) (src .nodes) ls i (at % 65536) dirty false) (at % 65536))
+    (countIn (valuesBuilt src ls i at dirty))
 
 -- ---- the settled pass
 -- the running address and the page before statement i, where the pass is walked over the tables that it settled

@@ -12,7 +12,7 @@ ghost use mathlib.Core.Path.{_≡_};
 ghost use Prim.Native.Nat.{_+_, _≤_, _<_};
 ghost use Rattle.ground.specs.Stores.{put, Wrote};
 ghost use Rattle.passes.specs.Walks.{source};
-ghost use Rattle.assembly.specs.Objects.{kindAt, objectRow};
+ghost use Rattle.assembly.specs.Objects.{kindAt, objectRow, standsAt};
 ghost use Rattle.assembly.specs.Steps.{doneAt, nextPlace, firstPlace, objectsOn, valuesOn, extentOf, Ready, Stepped};
 
 // Where a statement stands: the running address, and whether the page is dirty.
@@ -79,6 +79,16 @@ fn store_object(objects: &mut [u16], at: usize, kind: u16, address: u16, count: 
     at + 3
 }
 
+// Where the object of a statement at a location stands: an ORG's where it moves to.
+fn stands_at(e: Effect, here: u16) -> u16
+    ensures { λ r. ⌜ r ≡ standsAt e here ⌝ }
+{
+    if e.moves {
+        return e.to;
+    }
+    here
+}
+
 // What a statement of a settled pass does. It is accepted, so its own label is not refused.
 fn done_at(
     list: &[u16],
@@ -128,8 +138,9 @@ fn step(
         s.values,
     );
     let kind = kind_at(list, i);
-    let after = store_object(objects, s.objects, kind, here, count);
     let e = done_at(list, items, nodes, labels, i, place);
+    let address = stands_at(e, here);
+    let after = store_object(objects, s.objects, kind, address, count);
     let next = place.next(e);
     let tallied = tally.object(kind, here as usize, e.size as usize);
     Going {

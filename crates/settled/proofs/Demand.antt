@@ -13,7 +13,6 @@ use borrow.Author.Tests.{eq-eqb, eqb-true}
 use Rattle.ground.specs.Choice.{pick}
 use Rattle.ground.proofs.Choices.{pick-false, by-pick, by-test}
 use Rattle.expressions.specs.Numbers.{Cells, Short}
-use Rattle.records.specs.Objects as records
 use Rattle.records.specs.Objects.{Object, With}
 use Rattle.records.specs.Text.{close}
 use Rattle.records.specs.Runs.{runsOf, pieces}

@@ -16,11 +16,14 @@ store-values-requires c κs = search needs
 kind-at-requires : tie.Need-kind-at-requires
 kind-at-requires c κs = search needs
 
-store-object-requires : tie.Need-store-object-requires
-store-object-requires c κs = search needs
-
 done-at-requires : tie.Need-done-at-requires
 done-at-requires c κs = search needs
+
+stands-at-requires : tie.Need-stands-at-requires
+stands-at-requires c κs = search needs
+
+store-object-requires : tie.Need-store-object-requires
+store-object-requires c κs = search needs
 
 next-requires : tie.Need-next-requires
 next-requires c κs = search needs
@@ -33,18 +36,20 @@ cast-object-2 c = search needs
 
 object-requires : tie.Need-object-requires
 object-requires c κs =
-    let pre = c .before .before .before .before .before .before .before .before .before .before .before .before .before .before .before .before .before .before .before .before .before .pre in
-    (pre .held, pre .short, omega arith, omega (arith, c .before .before .done-at .ensures .1))
+    let done = c .before .before .before .before .before .before .before in
+    let pre = done .before .before .before .before .before .before .before .before .before .before .before .before .before .before .before .pre in
+    (pre .held, pre .short, omega arith, omega (arith, done .done-at .ensures .1))
 
-cast-t23 : tie.Need-cast-t23
-cast-t23 c = search needs
+cast-t24 : tie.Need-cast-t24
+cast-t24 c = search needs
 
-mul-t24 : tie.Need-mul-t24
-mul-t24 c = search needs
+mul-t25 : tie.Need-mul-t25
+mul-t25 c = search needs
 
-add-t25 : tie.Need-add-t25
-add-t25 c =
-    omega (arith, c .before .before .before .before .before .before .before .before .before .before .before .before .before .before .before .before .before .before .before .before .before .before .before .pre .values, c .before .before .before .before .before .before .before .before .before .before .before .before .store-values .ok)
+add-t26 : tie.Need-add-t26
+add-t26 c =
+    let counted = c .before .before .before .before .before .before .before .before .before .before .before .before .before in
+    omega (arith, counted .before .before .before .before .before .before .before .before .before .before .before .pre .values, counted .store-values .ok)
 
 same-length : tie.Need-same-length
 same-length c = search needs
@@ -55,12 +60,14 @@ same-length-2 c = search needs
 returns : tie.Need-returns
 unfolding valuesBuilt
 returns c =
-    let done = c .before .before .before .before in
-    let stored = done .before .before .before in
-    let counted = stored .before .before .before .before .before in
-    step-joins (counted .store-values .ensures .0) (counted .store-values .ensures .1) (omega (arith, counted .store-values .ok))
-    (stored .before .before .kind-at .ensures) (stored .store-object .ensures .0) (stored .store-object .ensures .1)
-    (done .done-at .ensures .0) (c .before .before .before .next .ensures .0) (c .before .before .before .next .ensures .1)
+    let next = c .before .before .before .next in
+    let stored = c .before .before .before .before .before .before in
+    let stands = stored .before .before in
+    let done = stands .before in
+    let counted = done .before .before .before .before in
+    step-joins (counted .before .before .before .before .before .before .before .before .before .before .before .pre .near) (counted .store-values .ensures .0) (counted .store-values .ensures .1)
+    (omega (arith, counted .store-values .ok)) (done .before .kind-at .ensures) (done .done-at .ensures .0) (stands .stands-at .ensures)
+    (stored .store-object .ensures .0) (stored .store-object .ensures .1) (next .ensures .0) (next .ensures .1)
     (c .before .object .ensures .0) (c .before .object .ensures .1)
 
 pub step-spec : {M : Type 1} → statement M
@@ -70,15 +77,16 @@ step-spec =
     cast-here
     store-values-requires
     kind-at-requires
-    store-object-requires
     done-at-requires
+    stands-at-requires
+    store-object-requires
     next-requires
     cast-object
     cast-object-2
     object-requires
-    cast-t23
-    mul-t24
-    add-t25
+    cast-t24
+    mul-t25
+    add-t26
     same-length
     same-length-2
     returns)
