@@ -81,3 +81,25 @@ def operand(kind, form, byte, pattern):
         step = {",R+": 1, ",R++": 2, ",-R": 3, ",--R": 4}[form.split("`")[1]]
         return KINDS["step"], register, step
     return KINDS["address"], 0, 0
+
+
+def codes():
+    """{(operation, form): (page, code)} of every name, second names included."""
+    found = {row: code for code, row in opcodes().items()}
+    for name, second in seconds():
+        found.update({(OPERATIONS[second], form): code for (operation, form), code in list(found.items()) if operation == OPERATIONS[name]})
+    return found
+
+
+def seconds():
+    """(name, second name) of each operation that is written in two ways."""
+    sentence = re.search(r"^ASL is also written .*$", page("SHEET.md"), re.M).group(0)
+    for name, second, on in re.findall(r"(\w+) (?:is )?also (?:written )?(\w+)( \(on A and B too\))?", sentence):
+        yield from ((name + a, second + a) for a in ("", "A", "B")[: 3 if on else 1])
+
+
+def boxes(own):
+    """The registers of the push byte's boxes, bit 7 first, where the stack pointer is S or U."""
+    row = re.search(r"^Push byte, bit 7 to bit 0: (.*)\.$", page("SHEET.md"), re.M).group(1)
+    other = {"S": "U", "U": "S"}[own]
+    return [REGISTERS[other if name.startswith("S or U") else name] for name in row.split(", ")]

@@ -1,18 +1,26 @@
-"""Writes the published tables that the program `published` compares with the library, to crates/published/data:
+"""Writes the published tables that the program `published` compares with the library, to crates/published/data, and says what it wrote:
 
   opcodes    the sheet's opcode map, all 3 x 256 codes:           PAGE CODE FORM OPERATION
+  codes      the same the other way, every name in every form:    OPERATION FORM PAGE CODE
   postbytes  the sheet's postbyte table, all 256, as LDA at 0100: POSTBYTE LENGTH KIND REGISTER INDIRECT NUMBER
              with the bytes 12 34 after the postbyte; the number is an offset, a target, an accumulator, a step or an address
+  negatives  the same with the bytes FE DC, so that offsets of one and of two bytes are negative
+  pushes     the sheet's boxes of the push byte, all 256:         BYTE SET SET
+             the sets of registers that it names to PSHS and PULS, and to PSHU and PULU
+  lists      the same the other way, every set of registers:      OWN COUNT REGISTERS BYTE
+             with D in place of A and B too; and none and the own pointer, which have no byte
   capstone   what Debian's capstone 4.0.2 (`cstool m6809`) says:  BYTES LENGTH OPERATION FAULT
              FAULT is - where it is right, p where it reads a PC postbyte with register bits, x where it reads a transfer of unequal sizes
 
-All numbers but lengths are hexadecimal, those of docs/ROWS.md; - stands for undefined. The first two come from docs/SHEET.md alone.
+All numbers but lengths and counts are hexadecimal, those of docs/ROWS.md; - stands for undefined. All but the last come from docs/SHEET.md alone.
+Beside each stands a damaged one (damaged.py). Needs Debian's capstone-tool.
 """
 import os
 import random
 import re
 import subprocess
 
+import damaged
 import sheet
 
 OUT = os.path.join(sheet.ROOT, "crates", "published", "data")
@@ -26,19 +34,54 @@ def opcode_lines():
             yield f"{prefix:02X} {code:02X} " + ("- --" if operation is None else f"{form} {operation:02X}")
 
 
-def postbyte_lines():
+def code_lines():
+    codes = sheet.codes()
+    for operation in sheet.OPERATIONS.values():
+        for form in sheet.FORMS.values():
+            page, code = codes.get((operation, form), (None, None))
+            yield f"{operation:02X} {form} " + ("-- --" if page is None else f"{page:02X} {code:02X}")
+
+
+def postbyte_lines(first, second):
+    """The postbytes with two bytes after each, as the sheet's table reads them; offsets are two's complement."""
     rows = sheet.postbytes()
     for byte in range(256):
         if byte not in rows:
             yield f"{byte:02X} - - - - ----"
             continue
         extra, kind, register, detail, indirect = rows[byte]
-        number = {0: detail, 1: 0x12, 2: 0x1234}[extra]
+        number = {0: detail, 1: first - 256 * (first > 127), 2: 256 * first + second}[extra]
         if kind == sheet.KINDS["pc"]:
             number += 0x0100 + 2 + extra
         if kind == sheet.KINDS["address"]:
             indirect = 0  # the kind itself says so
-        yield f"{byte:02X} {2 + extra} {kind:X} {register} {indirect} {number:04X}"
+        yield f"{byte:02X} {2 + extra} {kind:X} {register} {indirect} {number % 65536:04X}"
+
+
+def ticked(own, byte):
+    """The registers whose boxes a push byte ticks, bit 7 first."""
+    return [register for i, register in enumerate(sheet.boxes(own)) if byte >> 7 - i & 1]
+
+
+def push_lines():
+    for byte in range(256):
+        yield f"{byte:02X} " + " ".join(f"{sum(1 << register for register in ticked(own, byte)):04X}" for own in "SU")
+
+
+def list_line(own, registers, byte):
+    return f"{sheet.REGISTERS[own]} {len(registers)} {''.join(map(str, registers)):-<8} {byte}"
+
+
+def list_lines():
+    a, b, d = (sheet.REGISTERS[name] for name in "ABD")
+    for own in "SU":
+        yield list_line(own, [], "--")
+        yield list_line(own, [sheet.REGISTERS[own]], "--")
+        for byte in range(1, 256):
+            registers = ticked(own, byte)
+            yield list_line(own, registers, f"{byte:02X}")
+            if a in registers and b in registers:
+                yield list_line(own, [d] + [register for register in registers if register not in (a, b)], f"{byte:02X}")
 
 
 def cstool(bytes_):
@@ -83,12 +126,19 @@ def capstone_lines():
 
 
 def write(name, lines):
+    lines = list(lines)
     os.makedirs(OUT, exist_ok=True)
     with open(os.path.join(OUT, name), "w") as out:
         out.writelines(line + "\n" for line in lines)
+    print(f"crates/published/data/{name}: {len(lines)} lines")
 
 
 if __name__ == "__main__":
     write("opcodes", opcode_lines())
-    write("postbytes", postbyte_lines())
+    write("codes", code_lines())
+    write("postbytes", postbyte_lines(0x12, 0x34))
+    write("negatives", postbyte_lines(0xFE, 0xDC))
+    write("pushes", push_lines())
+    write("lists", list_lines())
     write("capstone", capstone_lines())
+    damaged.write("published")

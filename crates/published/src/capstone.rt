@@ -6,7 +6,7 @@ use crate::lines::two;
 use ground::refusals::UNDEFINED;
 ghost use Prim.Native.Nat.{_<_};
 
-pub const LINE: usize = 18;
+pub(crate) const LINE: usize = 18;
 
 fn byte_of(line: &[u8], at: usize) -> u8
     requires { ⌜ at < 16 ⌝ }
@@ -14,7 +14,7 @@ fn byte_of(line: &[u8], at: usize) -> u8
     (two(line, at) % 256) as u8
 }
 
-pub fn differs(line: &[u8]) -> bool {
+pub(crate) fn differs(line: &[u8]) -> bool {
     let bytes = [
         byte_of(line, 0),
         byte_of(line, 2),
@@ -23,12 +23,11 @@ pub fn differs(line: &[u8]) -> bool {
         byte_of(line, 8),
     ];
     let decoded = decoder::decode(&bytes, 0x0100);
-    let refused = decoded.refusal == UNDEFINED;
     if is_dash(line, 13) | !is_dash(line, 16) {
-        return !refused;
+        return decoded.refusal != UNDEFINED;
     }
     let meaning = decoded.meaning;
-    let length = decoded.length as u16 == one(line, 11);
+    let length = (decoded.refusal == 0) & (decoded.length == one(line, 11));
     let operation = rows::merged(byte_of(line, 13));
     !(length & (meaning.operation == operation))
 }

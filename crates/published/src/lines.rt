@@ -4,17 +4,17 @@ use reader::digit;
 ghost use Prim.Native.Nat.{_<_, _≤_};
 
 // A number of one digit; 16 where there is none.
-pub fn one(line: &[u8], at: usize) -> u16 {
-    digit(byte(line, at)) as u16
+pub(crate) fn one(line: &[u8], at: usize) -> u8 {
+    digit(byte(line, at))
 }
 
 // A number of two digits; 256 where one is none.
-pub fn two(line: &[u8], at: usize) -> u16
+pub(crate) fn two(line: &[u8], at: usize) -> u16
     requires { ⌜ at < 16 ⌝ }
     ensures { λ r. ⌜ r ≤ 256 ⌝ }
 {
-    let high = one(line, at);
-    let low = one(line, at + 1);
+    let high = one(line, at) as u16;
+    let low = one(line, at + 1) as u16;
     if 15 < high {
         return 256;
     }
@@ -25,7 +25,7 @@ pub fn two(line: &[u8], at: usize) -> u16
 }
 
 // A number of four digits, modulo 65536.
-pub fn four(line: &[u8], at: usize) -> u16
+pub(crate) fn four(line: &[u8], at: usize) -> u16
     requires { ⌜ at < 12 ⌝ }
 {
     let high = two(line, at) as u32;
@@ -34,6 +34,6 @@ pub fn four(line: &[u8], at: usize) -> u16
 }
 
 // A dash stands for what is not there.
-pub fn is_dash(line: &[u8], at: usize) -> bool {
+pub(crate) fn is_dash(line: &[u8], at: usize) -> bool {
     byte(line, at) == b'-'
 }

@@ -1,13 +1,13 @@
-// The sheet's opcode map: PAGE CODE FORM OPERATION, as `00 86 1 36`.
+// The sheet's opcode map, for the decoder: PAGE CODE FORM OPERATION, as `00 86 1 36`, with dashes where the sheet has none.
 use crate::lines::is_dash;
 use crate::lines::one;
 use crate::lines::two;
 use rows::Named;
 
-pub const LINE: usize = 11;
+pub(crate) const LINE: usize = 11;
 
 // The row of the code is not the line's.
-pub fn differs(line: &[u8]) -> bool {
+pub(crate) fn differs(line: &[u8]) -> bool {
     let page = two(line, 0);
     let code = two(line, 3);
     if 255 < page {
@@ -19,7 +19,7 @@ pub fn differs(line: &[u8]) -> bool {
     let named = rows::row_of(page as u8, code as u8);
     match named {
         Named::Is { operation, form } => {
-            !((one(line, 6) == form as u16) & (two(line, 8) == operation as u16))
+            !((one(line, 6) == form) & (two(line, 8) == operation as u16))
         }
         Named::Undefined => !is_dash(line, 6),
     }

@@ -26,7 +26,7 @@ fn count(line: &[u8]) -> u8 {
     (n - 6) as u8
 }
 
-pub fn operand(line: &[u8]) -> Operand {
+pub(crate) fn operand(line: &[u8]) -> Operand {
     let registers = [
         one(line, 6),
         one(line, 7),
@@ -84,7 +84,7 @@ fn form_digit(form: u8, dirties: bool) -> u16 {
 }
 
 // The answer is not the one that stands in the line from a place on.
-pub fn differs(built: Built, line: &[u8], at: usize) -> bool
+pub(crate) fn differs(built: Built, line: &[u8], at: usize) -> bool
     requires { ⌜ at < 16 ⌝ }
 {
     if byte(line, at) == b'-' {
@@ -122,14 +122,14 @@ fn kept(mut s: State, line: &[u8]) -> State {
     s.compared(differs(built, line, 14))
 }
 
-pub fn named(mut s: State, line: &[u8]) -> State {
+pub(crate) fn named(mut s: State, line: &[u8]) -> State {
     let mut i = s.instruction;
     i.operand = operand(line);
     s.instruction = i;
     s
 }
 
-pub fn read(s: State, line: &[u8]) -> State {
+pub(crate) fn read(s: State, line: &[u8]) -> State {
     let kind = byte(line, 0);
     match kind {
         b'>' => named(s, line),

@@ -77,7 +77,7 @@ fn anew(mut s: State) -> State {
     s
 }
 
-pub fn read(s: State, line: &[u8], nodes: &mut [u16], labels: &mut [u16]) -> State {
+pub(crate) fn read(s: State, line: &[u8], nodes: &mut [u16], labels: &mut [u16]) -> State {
     let kind = byte(line, 0);
     match kind {
         b'z' => anew(s),

@@ -9,7 +9,7 @@ fn is_moved(table: [u16; 12], line: &[u8]) -> bool {
     first & (table[7] == four(line, 40)) & (table[10] == four(line, 44))
 }
 
-pub fn read(s: State, line: &[u8]) -> State {
+pub(crate) fn read(s: State, line: &[u8]) -> State {
     let mut table = [
         one(line, 12) as u16,
         four(line, 13),

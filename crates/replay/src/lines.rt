@@ -6,14 +6,14 @@ ghost use Prim.Native.Nat.{_+_, _<_, _≤_, min};
 ghost use lib.ListN.{length};
 
 // A number of one digit. The reader has 16 for what is none.
-pub fn one(line: &[u8], at: usize) -> u8
+pub(crate) fn one(line: &[u8], at: usize) -> u8
     ensures { λ r. ⌜ r < 16 ⌝ }
 {
     digit(byte(line, at)) % 16
 }
 
 // A number of two digits.
-pub fn two(line: &[u8], at: usize) -> u8
+pub(crate) fn two(line: &[u8], at: usize) -> u8
     requires { ⌜ at < 64 ⌝ }
 {
     let high = one(line, at);
@@ -21,7 +21,7 @@ pub fn two(line: &[u8], at: usize) -> u8
 }
 
 // A number of four digits.
-pub fn four(line: &[u8], at: usize) -> u16
+pub(crate) fn four(line: &[u8], at: usize) -> u16
     requires { ⌜ at < 60 ⌝ }
 {
     let high = two(line, at) as u16;
@@ -29,12 +29,12 @@ pub fn four(line: &[u8], at: usize) -> u16
 }
 
 // Bit n of a number of one digit.
-pub fn has(line: &[u8], at: usize, bit: u8) -> bool {
+pub(crate) fn has(line: &[u8], at: usize, bit: u8) -> bool {
     one(line, at) & bit == bit
 }
 
 // Where the line that stands at a place ends.
-pub fn end_of(text: &[u8], at: usize) -> usize
+pub(crate) fn end_of(text: &[u8], at: usize) -> usize
     requires { ⌜ at ≤ length (now text) ⌝ }
     ensures { λ r. ⌜ (at ≤ r) × (r ≤ length (now (text .entry))) ⌝ }
 {
@@ -49,7 +49,7 @@ pub fn end_of(text: &[u8], at: usize) -> usize
 }
 
 // The place after the end of a line, within the text.
-pub fn after(text: &[u8], end: usize) -> usize
+pub(crate) fn after(text: &[u8], end: usize) -> usize
     ensures { λ r. ⌜ r ≡ min (end + 1) (length (now (text .entry))) ⌝ }
 {
     if end < text.len() {

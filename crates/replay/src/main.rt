@@ -1,5 +1,6 @@
 // Replays the fixed list of data/: what the Rust was seen to answer, and where it differs by a listed difference what document 01 says
-// (harness/replay says how the list was made). Each file has a line for a piece of a case.
+// (harness/replay says how the list was made). Each file has a line for a piece of a case. Beside each stands a damaged one: a few cases that are right
+// and, once for each digit of their answers, wrong in that digit. A comparison that does not look would count too few.
 mod builds;
 mod evaluations;
 mod labels;
@@ -44,6 +45,14 @@ fn read(
     }
 }
 
+fn say_differing(n: u64, line: &[u8]) {
+    say(b"line ");
+    io::print_decimal(STDOUT_FILENO, n);
+    say(b" differs: ");
+    say(line);
+    say(b"\n");
+}
+
 // Reads a line, and prints it and its number where its answer differs.
 fn turn(
     file: File,
@@ -57,11 +66,7 @@ fn turn(
     let next = read(file, s.entered(), line, first, second, out);
     let after = next.tally;
     if before.differing < after.differing {
-        say(b"line ");
-        io::print_decimal(STDOUT_FILENO, next.line);
-        say(b" differs: ");
-        say(line);
-        say(b"\n");
+        say_differing(next.line, line);
     }
     next
 }
@@ -92,16 +97,7 @@ fn buffer() -> [u8; 600000]
     [0; 600000]
 }
 
-fn report(name: &[u8], file: File) {
-    let mut text = buffer();
-    let opened = os::open_read(name);
-    if opened < 0 {
-        os::fail(name);
-        return;
-    }
-    let n = io::read_full(opened, &mut text);
-    libc::close(opened);
-    let tally = replay(file, &text[..n]);
+fn say_tally(name: &[u8], tally: Tally) {
     say(name);
     say(b": ");
     io::print_decimal(STDOUT_FILENO, tally.compared);
@@ -112,10 +108,36 @@ fn report(name: &[u8], file: File) {
     say(b" differ\n");
 }
 
-fn main() {
+fn report(name: &[u8], file: File) {
+    let mut text = buffer();
+    let opened = os::open_read(name);
+    if opened < 0 {
+        os::fail(name);
+        return;
+    }
+    let n = io::read_full(opened, &mut text);
+    libc::close(opened);
+    say_tally(name, replay(file, &text[..n]));
+}
+
+fn list() {
     report(b"builds", File::Builds);
     report(b"texts", File::Texts);
     report(b"labels", File::Labels);
     report(b"segments", File::Segments);
     report(b"evaluations", File::Evaluations);
+}
+
+// Of these every damage must be counted.
+fn damaged() {
+    report(b"damaged/builds", File::Builds);
+    report(b"damaged/texts", File::Texts);
+    report(b"damaged/labels", File::Labels);
+    report(b"damaged/segments", File::Segments);
+    report(b"damaged/evaluations", File::Evaluations);
+}
+
+fn main() {
+    list();
+    damaged();
 }

@@ -22,7 +22,7 @@ fn anew(mut s: State) -> State {
     s
 }
 
-pub fn read(s: State, line: &[u8], starts: &mut [u16]) -> State {
+pub(crate) fn read(s: State, line: &[u8], starts: &mut [u16]) -> State {
     let kind = byte(line, 0);
     match kind {
         b'n' => anew(s),

@@ -5,25 +5,25 @@ use instruction::Values;
 use values::Value;
 
 // How many answers were compared, how many of them by a listed difference, and how many differ.
-pub struct Tally {
-    pub compared: u64,
-    pub listed: u64,
-    pub differing: u64,
+pub(crate) struct Tally {
+    pub(crate) compared: u64,
+    pub(crate) listed: u64,
+    pub(crate) differing: u64,
 }
 
 // The tally and the line's number; the instruction that is kept; the last pair of values; how much of the two tables is in use; and the text that was
 // written.
-pub struct State {
-    pub tally: Tally,
-    pub line: u64,
-    pub marked: bool,
-    pub instruction: Instruction,
-    pub values: Values,
-    pub rows: usize,
-    pub cells: usize,
-    pub written: usize,
-    pub read: usize,
-    pub sound: bool,
+pub(crate) struct State {
+    pub(crate) tally: Tally,
+    pub(crate) line: u64,
+    pub(crate) marked: bool,
+    pub(crate) instruction: Instruction,
+    pub(crate) values: Values,
+    pub(crate) rows: usize,
+    pub(crate) cells: usize,
+    pub(crate) written: usize,
+    pub(crate) read: usize,
+    pub(crate) sound: bool,
 }
 
 fn no_values() -> Values {
@@ -57,7 +57,7 @@ fn no_instruction() -> Instruction {
     }
 }
 
-pub fn start() -> State {
+pub(crate) fn start() -> State {
     let tally = Tally {
         compared: 0,
         listed: 0,
@@ -87,19 +87,19 @@ fn counted(n: u64, so: bool) -> u64 {
 
 impl State {
     // One line more.
-    pub fn entered(mut self) -> State {
+    pub(crate) fn entered(mut self) -> State {
         self.line = counted(self.line, true);
         self
     }
 
     // The next answer is one where the Rust differs by a number of the list.
-    pub fn mark(mut self) -> State {
+    pub(crate) fn mark(mut self) -> State {
         self.marked = true;
         self
     }
 
     // One answer compared.
-    pub fn compared(mut self, differs: bool) -> State {
+    pub(crate) fn compared(mut self, differs: bool) -> State {
         let tally = self.tally;
         let next = Tally {
             compared: counted(tally.compared, true),

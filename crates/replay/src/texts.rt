@@ -13,8 +13,13 @@ use ground::tables::byte;
 use ground::tables::cell;
 use ground::words::add;
 
-fn object(mut s: State, line: &[u8], objects: &mut [u16], kind: u16) -> State {
-    s.rows = store_row(objects, s.rows, kind, four(line, 1), 0);
+// `o` has data, `n` has none.
+fn kind(line: &[u8]) -> u16 {
+    if byte(line, 0) == b'o' { 1 } else { 0 }
+}
+
+fn object(mut s: State, line: &[u8], objects: &mut [u16]) -> State {
+    s.rows = store_row(objects, s.rows, kind(line), four(line, 1), 0);
     s
 }
 
@@ -91,7 +96,7 @@ fn finish(mut s: State) -> State {
     s.compared(differs)
 }
 
-pub fn read(
+pub(crate) fn read(
     s: State,
     line: &[u8],
     objects: &mut [u16],
@@ -100,8 +105,7 @@ pub fn read(
 ) -> State {
     let kind = byte(line, 0);
     match kind {
-        b'o' => object(s, line, objects, 1),
-        b'n' => object(s, line, objects, 0),
+        b'o' | b'n' => object(s, line, objects),
         b'=' => write(s, line, objects, values, out),
         b':' => compare(s, line, out),
         b'.' => finish(s),
