@@ -1,6 +1,6 @@
 """The cases of the read-back program, made from document 01's rules by hand: each is a text and what must be printed for it.
 
-  python3 harness/readback_cases.py           runs ./readback on every case, and compares; exit 1 if one differs
+  python3 harness/readback_cases.py           runs ./readback on every case, and compares, its exit status too; exit 1 if one differs
   python3 harness/readback_cases.py --write   writes the texts and the lines that the gate compares: crates/listings, crates/readback, examples
 
 Where an instruction ends is written down here, a blank between bytes and a bar between instructions, from the sheet's lengths: nothing here decodes.
@@ -8,8 +8,10 @@ Where an instruction ends is written down here, a blank between bytes and a bar 
 import os
 import subprocess
 import sys
+import tempfile
 
 ROOT = os.path.dirname(os.path.dirname(os.path.abspath(__file__)))
+READBACK = os.path.join(ROOT, "readback")
 LISTINGS = os.path.join(ROOT, "crates", "listings")
 LONGEST = 65536
 
@@ -130,15 +132,28 @@ def write_all():
     write(os.path.join(ROOT, "examples", "tip_counter.hex"), records(*TIP_COUNTER, width=16))
 
 
+def status(lines):
+    """0 all read, 1 refused, 2 nothing could be read."""
+    last = lines.rstrip("\n").split("\n")[-1]
+    return {"end": 0, "refused": 1, "": 2}[last.split(" ")[0]]
+
+
 def run_all():
     image = os.path.join(ROOT, "examples", "tip_counter.hex")
-    cases = CASES + [("largest", *LARGEST), (image, open(image, newline="").read(), listed(*TIP_COUNTER))]
+    _, example, printed = CASES[0]
+    cases = [(name, [READBACK], text, lines) for name, text, lines in CASES + [("largest", *LARGEST)]]
+    cases += [("a file", [READBACK, image], "", listed(*TIP_COUNTER)), ("a dash for it", [READBACK, "-"], example, printed)]
     differing = 0
-    for name, text, lines in cases:
-        done = subprocess.run([os.path.join(ROOT, "readback")], input=text.encode(), capture_output=True)
-        if done.stdout != lines.encode():
-            differing += 1
-            print(f"{name}: printed {done.stdout[:200]!r}, expected {lines[:200]!r} {done.stderr.decode()}")
+    with tempfile.TemporaryDirectory() as elsewhere:
+        link = os.path.join(elsewhere, "link")
+        os.symlink(READBACK, link)
+        write(os.path.join(elsewhere, "example"), example)
+        cases += [("through a link", ["./link", "example"], "", printed), ("no such file", ["./link", "none"], example, "")]
+        for name, words, text, lines in cases:
+            done = subprocess.run(words, input=text.encode(), capture_output=True, cwd=elsewhere)
+            if (done.stdout, done.returncode) != (lines.encode(), status(lines)):
+                differing += 1
+                print(f"{name}: printed {done.stdout[:200]!r}, expected {lines[:200]!r}, status {done.returncode} {done.stderr.decode()}")
     print(f"{len(cases)} compared, {differing} differ")
     return 1 if differing else 0
 

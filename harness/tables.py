@@ -21,6 +21,7 @@ import re
 import subprocess
 
 import damaged
+import machine
 import sheet
 
 OUT = os.path.join(sheet.ROOT, "crates", "published", "data")
@@ -134,6 +135,7 @@ def write(name, lines):
 
 
 if __name__ == "__main__":
+    machine.need("cstool", "capstone-tool")
     write("opcodes", opcode_lines())
     write("codes", code_lines())
     write("postbytes", postbyte_lines(0x12, 0x34))
