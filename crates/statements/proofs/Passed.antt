@@ -17,9 +17,9 @@ use Rattle.expressions.specs.declared.finding.Found.{Found}
 use Rattle.expressions.specs.declared.Evaluated.{Evaluated}
 use Rattle.expressions.specs.Finding.{deepest, nodeValue}
 use Rattle.expressions.specs.Answers.{narrowOf, valueOf, pairOf, evaluations}
-use Rattle.expressions.proofs.Every.{Cells}
+use Rattle.expressions.specs.Numbers.{Cells, Short}
 use Rattle.expressions.proofs.Values.{Agree, evaluations-agree}
-use Rattle.expressions.proofs.Fits.{Short, Known, evaluated-valid}
+use Rattle.expressions.proofs.Fits.{Known, evaluated-valid}
 use Rattle.instruction.specs.Records.{narrower, agreeing, lawful}
 use Rattle.instruction.specs.Building.{noValues}
 use Rattle.instruction.proofs.Refuses.{Late, fresh-late}
