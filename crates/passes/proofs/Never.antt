@@ -9,7 +9,7 @@ use Prim.Native.Nat.{ℕ, zero, suc, _+_, _<_}
 use native.Mathlib.Nat.{le-of-suc-le-suc}
 use native.Mathlib.Omega.{arith}
 use lib.Dec.{eqb}
-use lib.ListN.{replicate}
+use lib.ListN.{length, replicate}
 use Rattle.ground.specs.Choice.{pick}
 use Rattle.ground.specs.Refusals.{notSettled}
 use Rattle.ground.proofs.Choices.{pick-false, by-test, by-pick}
@@ -21,11 +21,12 @@ use Rattle.statements.specs.Listing.{rowsOf}
 use Rattle.statements.proofs.Refuses.{Running, counted-running}
 use Rattle.passes.specs.declared.walk.State.{State}
 use Rattle.passes.specs.declared.Ended.{Ended}
-use Rattle.passes.specs.Labels.{illOf, begunTable}
+use Rattle.passes.specs.declared.Settled.{Settled}
+use Rattle.passes.specs.Labels.{illOf, begunTable, labelsFit}
 use Rattle.passes.specs.Walks.{Source, Walk, startOf, hereOf, marksOf, markedState, effectIn, sizedState, firstRefusal, judged, originState, advancedState, markOf, resizeOf, advanceOf, doneOf, stepOf, walkOf, walkTo}
-use Rattle.passes.specs.Passes.{passOf, ended, answerOf, Outcome, afterOf, settleOf, mostPasses, passedOf, tooMany, endedOf}
+use Rattle.passes.specs.Passes.{passOf, ended, answerOf, Outcome, afterOf, settleOf, mostPasses, passedOf, tooMany, endedOf, settledRefusal, settledOf}
 use Rattle.passes.specs.Counts.{passAt}
-use Rattle.passes.proofs.Counted.{never-settled}
+use Rattle.passes.proofs.Counted.{never-settled, not-settled}
 
 -- ---- one statement
 -- the segment of an ORG
@@ -133,3 +134,11 @@ module _ (src : Source) (ls : List ℕ) where
   -- and with 64 passes
   pub thirteen-passes : endedOf src ls .refusal ≡ notSettled → endedOf src ls .passes ≡ mostPasses
   thirteen-passes e = ap (λ (a : Ended). a .passes) (unsettled-ends (thirteen-exactly .0 e))
+
+  -- so it is with the answer to a caller: the 9 of a label's row is no 13
+  pub settle-thirteen : (settledOf src ls .refusal ≡ notSettled) ↔ Unsettled
+  unfolding settledOf settledRefusal
+  settle-thirteen = (
+    by-pick (λ (n : ℕ). n ≡ notSettled → Unsettled) (labelsFit (src .list) (length ls) (endedOf src ls .fine)) (thirteen-exactly .0) (λ z. absurd (omega arith)),
+    λ u. ap (λ (a : Settled). a .refusal) (not-settled src ls (u .0) (u .1)),
+  )
