@@ -74,16 +74,29 @@ def decoded(data, address):
     return refusal & 255 or list(answer)
 
 
+LIBRARY.jw_settle.restype = LIBRARY.jw_hex.restype = ctypes.c_uint32
+
+
+def refusal_and_passes(returned):
+    """What jw_settle and jw_hex return: the refusal in the low 16 bits, the passes in the high 16."""
+    return returned & 0xFFFF, returned >> 16
+
+
+def settle_of(statements, items, nodes, labels):
+    """Refusal, passes and the label table of a list of statements."""
+    table = words(labels)
+    returned = LIBRARY.jw_settle(*lent(words(statements), words(items), words(nodes), table))
+    return *refusal_and_passes(returned), list(table)
+
+
 def hex_of(statements, items, nodes, labels, object_rows, value_rows, room):
-    """Refusal, passes, the label table, and the text of a list of statements; no text beside a refusal, which must leave everything as it was."""
+    """Refusal, passes, the tables of labels, objects and values, and the text of a list of statements; no text beside a refusal. What is not stored is 7."""
     table, objects, values = words(labels), words([7] * (3 * object_rows)), words([7] * (2 * value_rows))
     out, answer = ctypes.create_string_buffer(b"U" * room, room), words([0] * 4)
     returned = LIBRARY.jw_hex(
         *lent(words(statements), words(items), words(nodes), table, objects, values), out, ctypes.c_size_t(room), *lent(answer)
     )
-    refusal, passes, length = returned & 255, returned >> 8 & 255, size(answer)
-    assert out.raw[length:] == b"U" * (room - length)
-    if refusal:
-        assert length == 0 and set(objects) <= {7} and set(values) <= {7}
-        return refusal, passes, list(table), None
-    return 0, passes, list(table), out.raw[:length].decode()
+    refusal, passes = refusal_and_passes(returned)
+    length = size(answer)
+    assert out.raw[length:] == b"U" * (room - length) and (not refusal or length == 0)
+    return refusal, passes, list(table), list(objects), list(values), None if refusal else out.raw[:length].decode()

@@ -404,6 +404,38 @@ def one_pass(statements, items, nodes, table, sizes, bearer):
     return changed, done
 
 
+def lacks_row(row, labels):
+    """Whether a statement bears a label that has no row of its own in the lent table."""
+    return row[1] != NONE and row[1] >= len(labels) // 3
+
+
+def laid_over(table, labels):
+    """The lent table with the states and addresses found; nodes, and what is no row of 512, as they were."""
+    after = list(labels)
+    for k in range(min(512, len(labels) // 3)):
+        after[3 * k:3 * k + 2] = table[k][:2]
+    return after
+
+
+def settled(list_, items, nodes, labels):
+    """(refusal, passes, the lent label table then); 9 belongs to the first statement whose label has no row, and a refusal leaves the table."""
+    refusal, passes, table, done = settle(list_, items, nodes, labels)
+    for row, _, e in done or []:
+        if e.refusal:
+            break
+        if lacks_row(row, labels):
+            refusal = 9
+            break
+    return refusal, passes, list(labels) if refusal else laid_over(table, labels)
+
+
+def object_of(row, at, e):
+    """(kind, address, count of values): an ORG's object stands where the ORG moves to, any other where the statement stands."""
+    if row[0] == ORG:
+        return 0, e.to, 0
+    return (0, at % 65536, 0) if row[0] == RMB else (1, at % 65536, len(e.values))
+
+
 def assemble(list_, items, nodes, labels, object_rows=10**9, value_rows=10**9):
     """(refusal, passes, table, objects, values); 9 belongs to the first statement that does not fit."""
     refusal, passes, table, done = settle(list_, items, nodes, labels)
@@ -414,10 +446,9 @@ def assemble(list_, items, nodes, labels, object_rows=10**9, value_rows=10**9):
         if e.refusal:
             return e.refusal, passes, None, None, None
         if row[0] != BARE:
-            data = row[0] not in (RMB, ORG)
-            objects.append((1 if data else 0, at % 65536, len(e.values) if data else 0))
+            objects.append(object_of(row, at, e))
             values += e.values
-        if len(objects) > object_rows or len(values) > value_rows or (row[1] != NONE and row[1] >= len(labels) // 3):
+        if len(objects) > object_rows or len(values) > value_rows or lacks_row(row, labels):
             return 9, passes, None, None, None
     return 0, passes, table, objects, values
 
