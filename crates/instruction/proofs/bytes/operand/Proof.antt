@@ -66,7 +66,10 @@ returns-2 c = simp (c .before .before .before .argument .given .1) (cc)
 
 returns-3 : tie.Need-returns-3
 unfolding operandBytes
-returns-3 c = simp (c .before .before .before .before .before .argument2 .given .1) (cc)
+returns-3 c =
+    simp (c .before .before .before .before .before .argument2 .given .1)
+    (rw (← c .before .before .before .number-size2 .ensures)
+    (rw (c .before .sub .ensures, c .before .before .add .ensures) at (c .number3 .ensures)))
 
 returns-4 : tie.Need-returns-4
 unfolding operandBytes

@@ -66,7 +66,9 @@ returns-3 c =
       ← c .before .before .before .before .size2 .ensures,
       ← c .before .before .before .before .before .size .ensures,
       c .before .before .before .if2 .left,
-    ) (cc)
+      ← c .before .before .code .ensures .0,
+      ← c .before .code2 .ensures .0,
+    ) (c .listed .ensures)
 
 pub pair-spec : {M : Type 1} → statement M
 pair-spec =

@@ -74,7 +74,7 @@ same-length-2 c = search needs
 returns : tie.Need-returns
 returns c =
     let closed = c .before .before in
-    let full = closed .before .before .before .if1 .taken in
+    let full : closed .before .before .before .before .before .before .args .self .n + 1 ≡ 32 = omega arith in
     let start = closed .before .before .before .before .before .before in
     let a = start .args in
     let s = held start in
@@ -97,7 +97,7 @@ returns-2 c =
           (grown start)
           (s .start + s .n + 1)
           (λ es. Byte (a .b) ∷ es)
-          (grows start (c .if1 .left))
+          (grows start (λ (h : c .before .before .before .args .self .n + 1 ≡ 32). c .if1 .left (omega (arith, h))))
           refl
           (omega arith)
           (whole start)
