@@ -2,8 +2,8 @@
 
   python3 harness/damaged.py published | replay      harness/tables.py and harness/replay do it too
 
-A damaged table has a few pieces of its table as they are, and then each again once for every digit of its answers, with that digit changed, and once for every
-line of a text, with that line left out. So a comparison that does not look at something counts too few differences.
+A damaged table has a few pieces of its table as they are, and then each again once for every digit of its answers, with that digit changed; once for every answer
+of bytes, with a zero more; and once for every line of a text, without it. A comparison that does not look at something counts too few differences.
 """
 import os
 import re
@@ -11,23 +11,23 @@ import sys
 
 import sheet
 
-# The pieces of each table, the first that fits, with the answers as groups.
+# The pieces of each table, the first that fits, with the answers as groups; those that are bytes or a line have a name.
 PIECES = {
     "published": {
         "opcodes": [r"00 86 (.) (..)", r"00 01 (-) --"],
         "codes": [r"36 1 (..) (..)", r"36 0 (-)- --"],
         "postbytes": [r"99 (.) (.) (.) (.) (....)", r"87 (-) - - - ----"],
         "negatives": [r"8C (.) (.) (.) (.) (....)", r"87 (-) - - - ----"],
-        "pushes": [r"E5 (....) (....)"],
+        "pushes": [r"34 E5 (....)", r"35 E5 (....)", r"36 E5 (....)", r"37 E5 (....)"],
         "lists": [r"6 3 75.----- (..)", r"5 1 5------- (-)-"],
         "capstone": [r"A684123400 (.) (..) (.)", r"0184123400 0 (-)- -", r"A6AC123400 3 36 (p)"],
     },
     "replay": {
-        "builds": [r">.*\nf.{13}(-.)", r">.*\nf.{13}(\w{11})", r">.*\nf.{13}(\w{5})\nk.{13}(\w{7})"],
-        "texts": [r"o.*\n..\n=\n:(.*)\n:(.*)\n\.", r"o.*\n....\nrD7\n=(..)\n:.*\n:.*\n\."],
+        "builds": [r">.*\nf.{13}(-.)", r">.*\nf.{13}(?P<bytes>\w{11})", r">.*\nf.{13}(?P<bytes>\w{5})\nk.{13}(?P<bytes_kept>\w{7})"],
+        "texts": [r"o.*\n..\n=\n:(?P<line>.*)\n:(?P<line_of_end>.*)\n\.", r"o.*\n....\nrD7\n=(..)\n:.*\n:.*\n\."],
         "labels": [r"0000FFFF.{24}(.{16})"],
         "segments": [r"n\na(?!0000).{4}(..)\nq.{4}(.{8})"],
-        "evaluations": [r"z\n(?:[nl].*\n)+\?.{8}(-.)", r"z\n(?:[nl].*\n)+r.*\n\?.{8}(.{10})\nr.*\n>.*\ne(\w+)"],
+        "evaluations": [r"z\n(?:[nl].*\n)+\?.{8}(-.)", r"z\n(?:[nl].*\n)+r.*\n\?.{8}(.{10})\nr.*\n>.*\ne(?P<bytes>\w+)"],
     },
 }
 
@@ -42,11 +42,15 @@ def other(character):
 
 def damages(pattern, piece):
     found = re.fullmatch(pattern, piece)
-    for first, last in map(found.span, range(1, found.re.groups + 1)):
+    names = {number: name for name, number in found.re.groupindex.items()}
+    for number in range(1, found.re.groups + 1):
+        first, last = found.span(number)
         for at in range(first, last):
             yield piece[:at] + other(piece[at]) + piece[at + 1 :]
-        if piece[first - 1] == ":":
-            yield piece[: first - 1] + piece[last + 1 :]
+        if names.get(number, "").startswith("bytes"):
+            yield piece[:last] + "00" + piece[last:]
+        if names.get(number, "").startswith("line"):
+            yield piece[: first - 1] + piece[last + 1 :]  # its colon and its end go too
 
 
 def write(program):

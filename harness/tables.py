@@ -5,8 +5,8 @@
   postbytes  the sheet's postbyte table, all 256, as LDA at 0100: POSTBYTE LENGTH KIND REGISTER INDIRECT NUMBER
              with the bytes 12 34 after the postbyte; the number is an offset, a target, an accumulator, a step or an address
   negatives  the same with the bytes FE DC, so that offsets of one and of two bytes are negative
-  pushes     the sheet's boxes of the push byte, all 256:         BYTE SET SET
-             the sets of registers that it names to PSHS and PULS, and to PSHU and PULU
+  pushes     the sheet's boxes of the push byte, all 4 x 256:     CODE BYTE SET
+             of PSHS, PULS, PSHU and PULU, with the set of registers that the byte names
   lists      the same the other way, every set of registers:      OWN COUNT REGISTERS BYTE
              with D in place of A and B too; and none and the own pointer, which have no byte
   capstone   what Debian's capstone 4.0.2 (`cstool m6809`) says:  BYTES LENGTH OPERATION FAULT
@@ -65,8 +65,11 @@ def ticked(own, byte):
 
 
 def push_lines():
-    for byte in range(256):
-        yield f"{byte:02X} " + " ".join(f"{sum(1 << register for register in ticked(own, byte)):04X}" for own in "SU")
+    codes = sheet.codes()
+    for name in ("PSHS", "PULS", "PSHU", "PULU"):
+        _, code = codes[sheet.OPERATIONS[name], sheet.FORMS["register"]]
+        for byte in range(256):
+            yield f"{code:02X} {byte:02X} {sum(1 << register for register in ticked(name[-1], byte)):04X}"
 
 
 def list_line(own, registers, byte):

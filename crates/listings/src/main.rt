@@ -22,25 +22,38 @@ fn report(name: &[u8]) {
     io::write_all(STDOUT_FILENO, &out[..m]);
 }
 
-fn main() {
+// What a text may look like.
+fn forms() {
     report(b"example");
     report(b"no_instruction");
     report(b"no_last_line_end");
     report(b"lower_case");
     report(b"cr_lf");
     report(b"mixed");
+}
+
+// Where runs begin and end, and every shape of an instruction.
+fn runs() {
     report(b"several_runs");
     report(b"follows_on");
     report(b"same_address_twice");
     report(b"last_address");
     report(b"around_the_end");
     report(b"shapes");
+}
+
+// 14 and 15.
+fn unreadable() {
     report(b"undefined_code");
     report(b"second_prefix");
     report(b"undefined_postbyte");
     report(b"unequal_registers");
     report(b"cut_short");
     report(b"lone_prefix");
+}
+
+// 16, 18 and 9.
+fn refused() {
     report(b"nothing");
     report(b"wrong_check");
     report(b"no_end_record");
@@ -51,4 +64,11 @@ fn main() {
     report(b"beyond");
     report(b"longest");
     report(b"too_long");
+}
+
+fn main() {
+    forms();
+    runs();
+    unreadable();
+    refused();
 }

@@ -98,15 +98,20 @@ pub(crate) fn differs(built: Built, line: &[u8], at: usize) -> bool
         | differing_bytes(bytes, line, at + 1)
 }
 
-fn fresh(mut s: State, line: &[u8]) -> State {
-    let i = s.instruction;
-    let operand = i.operand;
+// The operand built fresh, with the values, the page and the address of the line.
+fn assembled(operand: Operand, line: &[u8]) -> Built {
     let record = Record {
         operand,
         dirty: has(line, 5, 1),
         values: values(line),
     };
-    let built = instruction::assemble(record, four(line, 1));
+    instruction::assemble(record, four(line, 1))
+}
+
+fn fresh(mut s: State, line: &[u8]) -> State {
+    let i = s.instruction;
+    let operand = i.operand;
+    let built = assembled(operand, line);
     let next = built.instruction;
     if built.refusal == 0 {
         s.instruction = next;

@@ -7,6 +7,7 @@ use crate::lines::one;
 use crate::state::State;
 use crate::tables::store_row;
 use crate::tables::used;
+use expressions::Evaluated;
 use ground::tables::byte;
 use instruction::Record;
 use instruction::Values;
@@ -34,6 +35,16 @@ fn is_value(v: Value, line: &[u8], at: usize) -> bool
     (v.number == four(line, at)) & ((v.width == 16) == has(line, at + 4, 1))
 }
 
+fn differs(found: Evaluated, line: &[u8]) -> bool {
+    if byte(line, 9) == b'-' {
+        return found.refusal != one(line, 10);
+    }
+    let unsigned = found.unsigned;
+    let signed = found.signed;
+    let alike = is_value(unsigned, line, 9) & is_value(signed, line, 14);
+    !((found.refusal == 0) & alike)
+}
+
 fn ask(mut s: State, line: &[u8], nodes: &[u16], labels: &[u16]) -> State {
     let rows = used(nodes, s.rows);
     let cells = used(labels, s.cells);
@@ -51,11 +62,7 @@ fn ask(mut s: State, line: &[u8], nodes: &[u16], labels: &[u16]) -> State {
         signed,
     };
     s.values = values;
-    if byte(line, 9) == b'-' {
-        return s.compared(!(found.refusal == one(line, 10)));
-    }
-    let alike = is_value(unsigned, line, 9) & is_value(signed, line, 14);
-    s.compared(!((found.refusal == 0) & alike))
+    s.compared(differs(found, line))
 }
 
 fn build(s: State, line: &[u8]) -> State {
