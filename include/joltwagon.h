@@ -187,7 +187,7 @@ enum {
 /* The answers of jw_node (both values), jw_label, jw_segment_of (first and last address) and jw_read_text (two sizes). */
 enum { JW_NODE_CELLS = 4, JW_LABEL_CELLS = 2, JW_SEGMENT_CELLS = 2, JW_TEXT_CELLS = 8 };
 
-/* Lent tables. An object that counts more values than are left is JW_UNKNOWN. */
+/* Lent tables. An object with data that counts more values than are left is JW_UNKNOWN. */
 enum { JW_NODE_ROW = 3, JW_LABEL_ROW = 3, JW_OBJECT_ROW = 3, JW_VALUE_ROW = 2, JW_RUN_ROW = 2 };
 
 /* A table of segments: the number of starts, then the starts. 64 cells hold as many as there may be. Where starts are looked for, a number

@@ -342,6 +342,10 @@ static void settling(void)
     same("no room for values", returned, JW_NO_ROOM | TWO_PASSES);
     returned = jw_hex(list, 60, items, 2, nodes, 6, labels, 3, objects, 9, values, 8, out, n, answer, JW_SIZE_CELLS - 1);
     same("no cells", returned, JW_NO_ROOM | TWO_PASSES);
+    returned = jw_hex(list, 60, items, 2, nodes, 6, labels, 2, objects, 9, values, 8, out, n, answer, JW_SIZE_CELLS);
+    same("no room for the label", returned, JW_NO_ROOM | TWO_PASSES);
+    returned = jw_settle(list, 60, items, 2, nodes, 6, labels, 2);
+    same("nor in jw_settle", returned, JW_NO_ROOM | TWO_PASSES);
     returned = jw_hex(list, 60, items, 1, nodes, 6, labels, 3, objects, 9, values, 8, out, n, answer, 0);
     same("an unknown character before no cells", returned, JW_UNKNOWN | TWO_PASSES);
     untouched("refused: objects", objects, 9);
