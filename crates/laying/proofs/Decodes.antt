@@ -109,7 +109,7 @@ module _ (entries : List Record) (at room : ℕ) (bytes : List ℕ) (h : at ≤ 
       rw laid-decodes (all-accepted entries at, as-many entries at, lengths-sum entries at ∙ ap length (sym (f .1)))
 
 -- ---- an accepted lent list
--- "the same number of instructions with the same lengths and meanings in the same order and nothing left over"
+-- the same number of instructions, with the same lengths and meanings in the same order, and nothing left over
 pub list-decodes :
     (list : List ℕ) (address room : ℕ) (bytes : List ℕ) →
     address ≤ 65536 →

@@ -125,7 +125,7 @@ advancedState ts i e s = pick (e .moves) (originState ts i (e .to) s) (judged i 
 unfoldable pub advancedStarts : List ℕ → Effect → State → List ℕ
 advancedStarts ts e s = pick (e .moves) (tableAfter ts (s .count) (e .to)) ts
 
--- ---- one statement: its label is marked "at once", so that its own operand sees it; then its effect is taken, sized and counted
+-- ---- one statement: its label is marked at once, so that its own operand sees it; then its effect is taken, sized and counted
 unfoldable pub markOf : List ℕ → ℕ → Walk → Walk
 markOf list i w =
     walk (markedState list i (w .state) (w .labels)) (markedLabels list i (w .state) (w .labels)) (w .sizes) (w .starts)

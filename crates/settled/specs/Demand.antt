@@ -1,5 +1,5 @@
--- Demand 3 of a settled list of instructions and bare labels: "the text, read and decoded .. gives the same number of instructions with the same lengths and
--- meanings in the same order and nothing left over". The meanings are those of the operand records, never taken from bytes.
+-- Demand 3 of a settled list of instructions and bare labels: its text, read and decoded, gives the same number of instructions with the same lengths and
+-- meanings in the same order, and nothing is left over. The meanings are those of the operand records, never taken from bytes.
 use mathlib.Core.Path.{_≡_}
 use mathlib.Core.Bool.{true}
 use mathlib.Core.List.{List, []}
@@ -28,9 +28,9 @@ pub record ReadsBack (src : Source) (ls : List ℕ) : Type 0 where
   pub laid : layFrom (recordsIs src ls) 0 65536 ≡ Bytes (bytesIs src ls)
   -- the text is one run at 0, and none where there is no instruction
   pub run : runsIn (settledText src ls) ≡ close 0 (bytesIs src ls) []
-  -- "the same lengths and meanings in the same order"
+  -- the same lengths and meanings in the same order
   pub same : runOf (bytesIs src ls) (origin 0) ≡ meaningsFrom (recordsIs src ls) 0
-  -- "the same number of instructions", none refused, "and nothing left over"
+  -- the same number of instructions, none refused, and nothing left over
   pub accepted : refusalIn (runOf (bytesIs src ls) (origin 0)) ≡ 0
   pub number : length (runOf (bytesIs src ls) (origin 0)) ≡ length (recordsIs src ls)
   pub whole : totalOf (runOf (bytesIs src ls) (origin 0)) ≡ length (bytesIs src ls)
