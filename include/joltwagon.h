@@ -303,7 +303,7 @@ uint8_t jw_read_text(const uint8_t *text, size_t text_len, uint8_t *bytes, size_
 /* Makes passes over a list of statements until one changes no label address and no size: the label table gets the addresses. At most 1,024
  * statements, 512 labels and 64 passes. The table must have the row of every label that a statement bears, else JW_NO_ROOM. A row that
  * no statement bears gets the address 0, and is undefined unless it has an expression: {1, 1234, 9} becomes {0, 0, 9}. Returns
- * the refusal and the passes (JW_REFUSAL, JW_PASSES). Stack: 14,512 bytes, measured by painting it, where a call took most (the
+ * the refusal and the passes (JW_REFUSAL, JW_PASSES). Stack: 14,528 bytes, measured by painting it, where a call took most (the
  * expression of an FCB deeper than 32). */
 uint32_t jw_settle(const uint16_t *list, size_t list_len, const uint16_t *items, size_t items_len, const uint16_t *nodes,
                    size_t nodes_len, uint16_t *labels, size_t labels_len);
