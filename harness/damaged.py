@@ -2,8 +2,8 @@
 
   python3 harness/damaged.py published | replay      harness/tables.py and harness/replay do it too
 
-A damaged table has a few pieces of its table as they are, and then each again once for every digit of its answers, with that digit changed; once for every answer
-of bytes, with a zero more; and once for every line of a text, without it. A comparison that does not look at something counts too few differences.
+A damaged table has a few pieces of its table as they are, and then each again once for every digit of its answers, with that digit changed; once for every
+answer of bytes, with a zero more; and once for every line of a text, without it. A comparison that does not look at something counts too few differences.
 """
 import os
 import re
