@@ -6,6 +6,8 @@ import ctypes
 import os
 import subprocess
 
+import machine
+
 ROOT = os.path.join(os.path.dirname(os.path.abspath(__file__)), "..")
 
 
@@ -24,6 +26,8 @@ def shared():
     return ctypes.CDLL(out)
 
 
+machine.need_x86()
+machine.need("cc", "gcc")
 LIBRARY = shared()
 
 
