@@ -103,16 +103,16 @@ module _ (src : Source) (ls : List ℕ) where
   }
 
   module _
-      (objects values : ℕ) (r : Ended) (x : Extent) (t t₀ : List ℕ) (fit : Bool)
+      (objects values : ℕ) (r : Ended) (x : Extent) (t t₀ : List ℕ) (fit : Bool) (n : ℕ)
       (p : r ≡ endedOf src ls) (q : t ≡ workedTable src ls t₀) (e : x ≡ extentOf src t (r .fine))
-      (f : fit ≡ labelsFit (src .list) (length ls) (r .fine))
+      (f : fit ≡ labelsFit (src .list) (length ls) n) (before : n ≡ r .fine)
     where
       extent-is : x ≡ record { objects = length (objectsOf src ls); values = length (valuesOf src ls); length = length (settledText src ls) }
       extent-is = e ∙ rw (q, p) (extent-put t₀)
 
       fitting-is : (leb (x .objects) objects && (leb (x .values) values && fit)) ≡ fitting src ls objects values
       unfolding fitting
-      fitting-is = rw (extent-is, f, p)
+      fitting-is = rw (extent-is, f, before, p)
 
       pub plan-fits :
           (leb (x .objects) objects && (leb (x .values) values && fit)) ≡ true → plan (r .refusal) r x ≡ planOf src ls objects values

@@ -31,7 +31,8 @@ same-length-2 c = search needs
 
 returns-2 : tie.Need-returns-2
 returns-2 c =
-    full-answers _ _ _ _ _ _ (c .before .before .before .before .before .prepare .ensures .0) (c .before .before .before .if1 .left) _ (c .before .if2 .taken) (c .unwritten2 .ensures)
+    full-answers _ _ _ _ _ _ (c .before .before .before .before .before .prepare .ensures .0) (c .before .before .before .if1 .left) _ (omega (arith, c .before .if2 .taken))
+    (c .unwritten2 .ensures)
 
 store-all-requires : tie.Need-store-all-requires
 unfolding planOf
@@ -41,15 +42,14 @@ write-stored-requires : tie.Need-write-stored-requires
 write-stored-requires c κs =
     let put = c .before .before .before .before .before .before .before .before .before in
     let tested = put .before .before .before .before .before in
-    let room = tested .if2 .left in
     let fine = tested .before .before .if1 .left in
     let plan = tested .before .before .before .before .prepare .ensures in
     let a = c .before .before .before .before .before .before .before .before .before .before .before .before .before .before .before .before .before .before .before .before .before .before .before .before .before .before .before .before .args in
     let os = now (a .objects) in
     let vs = now (a .values) in
     let out = now (a .out) in (
-      rows-there _ _ os vs out _ (plan .0) fine room _ _ (plan .1) _ (put .store-all .ensures .1 .0),
-      values-there _ _ os vs out _ (plan .0) fine room _ _ (plan .1) _ (put .store-all .ensures .1 .1),
+      rows-there _ _ os vs out _ (plan .0) fine (omega (arith, tested .if2 .left)) _ _ (plan .1) _ (put .store-all .ensures .1 .0),
+      values-there _ _ os vs out _ (plan .0) fine (omega (arith, tested .if2 .left)) _ _ (plan .1) _ (put .store-all .ensures .1 .1),
     )
 
 same-length-3 : tie.Need-same-length-3
@@ -71,7 +71,7 @@ returns-3 c =
     let plan = tested .before .before .before .before .prepare .ensures in
     let stored = put .store-all .ensures in
     let known = c .before .before .before .before .before .before .before .before .before .before .before .before .before .before .before .before .before .before .before .before .before .before .before .before .before .before .before in
-    written-answers _ _ _ _ _ _ (plan .0) (tested .before .before .if1 .left) (tested .if2 .left) _ _ (plan .1) _ _ _ _ _
+    written-answers _ _ _ _ _ _ (plan .0) (tested .before .before .if1 .left) (omega (arith, tested .if2 .left)) _ _ (plan .1) _ _ _ _ _
     (λ k. omega (arith, known .before .shared-slice-known3 .given k)) (λ k. omega (arith, known .slice-known .given k)) (stored .0) (stored .1 .0) (stored .1 .1) (c .before .before .write-stored .ensures) refl
 
 pub hex-spec : {M : Type 1} → statement M

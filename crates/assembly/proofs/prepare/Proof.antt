@@ -1,5 +1,6 @@
 -- `assembly::prepare` meets its contract: what its calls ensure makes the plan.
 -- Assumes nothing.
+use native.Mathlib.Omega.{arith}
 use Rattle.assembly.proofs.Endings.{fine-few, plan-fits, plan-short}
 use borrow.Author.Needs.{needs}
 use Rattle.assembly.proofs.prepare.Statement.{statement}
@@ -24,7 +25,7 @@ returns : tie.Need-returns
 returns c =
     let emitted = c .before .before .before .before in
     let settled = emitted .before .before .before .before .before in (
-      plan-fits _ _ _ _ _ _ _ _ _ (settled .settle-in .ensures .0) (settled .settle-in .ensures .1 .0) (emitted .emit .ensures .0) (c .before .labels-fit .ensures) (c .if1 .taken),
+      plan-fits _ _ _ _ _ _ _ _ _ _ (settled .settle-in .ensures .0) (settled .settle-in .ensures .1 .0) (emitted .emit .ensures .0) (c .before .labels-fit .ensures) (omega arith) (c .if1 .taken),
       settled .settle-in .ensures .1 .0,
     )
 
@@ -32,7 +33,7 @@ returns-2 : tie.Need-returns-2
 returns-2 c =
     let emitted = c .before .before .before .before in
     let settled = emitted .before .before .before .before .before in (
-      plan-short _ _ _ _ _ _ _ _ _ (settled .settle-in .ensures .0) (settled .settle-in .ensures .1 .0) (emitted .emit .ensures .0) (c .before .labels-fit .ensures) (c .if1 .left),
+      plan-short _ _ _ _ _ _ _ _ _ _ (settled .settle-in .ensures .0) (settled .settle-in .ensures .1 .0) (emitted .emit .ensures .0) (c .before .labels-fit .ensures) (omega arith) (c .if1 .left),
       settled .settle-in .ensures .1 .0,
     )
 
