@@ -201,7 +201,7 @@ fn ask(r: Record) -> Asked
     }
 }
 
-// An accepted instruction leaves the page dirty.
+// Whether an instruction that is accepted dirties the page.
 fn dirties(o: Operand) -> bool
     ensures { λ r. ⌜ r ≡ dirtiesOf o ⌝ }
 {

@@ -4,10 +4,10 @@ pub mod At
 pub mod Pages
 pub mod Codes
 pub mod Tests
-pub mod Laws
 pub mod Quick
 pub mod Sources
 pub mod Bytes
+pub mod Laws
 pub mod Lengths
 pub mod Counts
 pub mod Told
