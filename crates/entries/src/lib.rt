@@ -11,7 +11,7 @@ ghost use Prim.Native.Nat.{_≤_};
 ghost use lib.Dec.{ltb};
 ghost use lib.ListN.{length};
 ghost use Rattle.ground.specs.Choice.{pick};
-ghost use Rattle.entries.specs.Entries.{nowhere, byteIn, isFlag, flagIn, flaggedIn, cellsOf, registersIn, fieldsIn, toldIn, operandOf, keptFlagged, keptOf, valuesIn, entryOf};
+ghost use Rattle.entries.specs.Entries.{nowhere, byteIn, isFlag, flagIn, flaggedIn, cellsOf, registersIn, toldIn, operandOf, keptFlagged, keptOf, valuesIn, entryOf};
 
 // No operation, mode, register, step or width has this number, and no list so many registers.
 const NOWHERE: u8 = 255;
@@ -88,12 +88,28 @@ fn registers_in(row: &[u16]) -> [u8; 8]
     ]
 }
 
-// What the operand's cells hold, in a row that is long enough, so that no cell asks for the length.
-fn fields_in(row: &[u16]) -> Operand
+// Each flag of the operand is 0 or 1.
+fn flagged(row: &[u16]) -> bool
     requires { ⌜ 15 ≤ length (now row) ⌝ }
-    ensures { λ r. ⌜ r ≡ fieldsIn (now (row .entry)) ⌝ }
+    ensures { λ r. ⌜ r ≡ flaggedIn (now (row .entry)) ⌝ }
 {
-    let operation = narrow(row[0]);
+    (row[2] <= 1) & ((row[3] <= 1) & (row[5] <= 1))
+}
+
+// The operation of a row, if each of its flags is one; else none that is known.
+fn operation_in(row: &[u16], flags: bool) -> u8
+    requires { ⌜ 15 ≤ length (now row) ⌝ }
+    ensures { λ r. ⌜ r ≡ pick flags (byteIn (now (row .entry)) 0) nowhere ⌝ }
+{
+    if flags { narrow(row[0]) } else { NOWHERE }
+}
+
+// The operand of a row that is long enough, so that no cell asks for the length; it has no known operation unless each flag of its row is one.
+fn told(row: &[u16], flags: bool) -> Operand
+    requires { ⌜ 15 ≤ length (now row) ⌝ }
+    ensures { λ r. ⌜ r ≡ toldIn flags (now (row .entry)) ⌝ }
+{
+    let operation = operation_in(row, flags);
     let mode = narrow(row[1]);
     let indirect = row[2] == 1;
     let forced = row[3] == 1;
@@ -111,27 +127,6 @@ fn fields_in(row: &[u16]) -> Operand
         step,
         widening,
     }
-}
-
-// Each flag of the operand is 0 or 1.
-fn flagged(row: &[u16]) -> bool
-    requires { ⌜ 15 ≤ length (now row) ⌝ }
-    ensures { λ r. ⌜ r ≡ flaggedIn (now (row .entry)) ⌝ }
-{
-    (row[2] <= 1) & ((row[3] <= 1) & (row[5] <= 1))
-}
-
-// The operand, if each flag of its row is one; else it has no known operation.
-fn told(row: &[u16], flags: bool) -> Operand
-    requires { ⌜ 15 ≤ length (now row) ⌝ }
-    ensures { λ r. ⌜ r ≡ toldIn flags (now (row .entry)) ⌝ }
-{
-    let mut operand = fields_in(row);
-    if flags {
-        return operand;
-    }
-    operand.operation = NOWHERE;
-    operand
 }
 
 // The operand at the front of a row that is long enough.
