@@ -26,7 +26,6 @@ def shared():
     return ctypes.CDLL(out)
 
 
-machine.need_x86()
 machine.need("cc", "gcc")
 LIBRARY = shared()
 
