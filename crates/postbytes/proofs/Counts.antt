@@ -4,19 +4,20 @@
 use mathlib.Core.Path.{_≡_, refl, sym, ap, _∙_}
 use mathlib.Core.Bool.{Bool, false}
 use mathlib.Core.List.{List, [], _∷_, _++_, map}
-use Prim.Native.Nat.{ℕ, zero, suc, _+_, _/_, _%_, _^_, _<_}
+use Prim.Native.Nat.{ℕ, zero, suc, _+_, _<_}
 use lib.Dec.{T, eqb, eqb→eq}
-use lib.ListN.{length, replicate}
+use lib.ListN.{replicate}
 use Rattle.ground.specs.Choice.{pick}
 use Rattle.ground.specs.Refusals.{undefined}
-use Rattle.ground.proofs.Choices.{by-pick}
 use Rattle.ground.proofs.Ranges.{upto, below}
 use Rattle.values.specs.Widths.{extended}
 use Rattle.postbytes.specs.declared.Addressing.the-variants.{Offset}
-use Rattle.postbytes.specs.Registers.{A, B, X, Y, U, S, PC, CC, DP}
+use Rattle.postbytes.specs.Registers.{X, Y, U, S}
 use Rattle.postbytes.specs.Lists.{otherOf, boxes, sizeOf}
 use Rattle.postbytes.specs.Reading.{directOnly, counterOnly, addressOnly, highOf, shapeOf, extraOf, fillOf, refusalOfShape, isDefined}
+use Rattle.postbytes.specs.ListsWritten.{ticksOfSet}
 use Rattle.postbytes.specs.ListsRead.{ticked, registersOf, pairOf, refusalOfPair}
+use Rattle.postbytes.proofs.Boxes.{by-row}
 
 -- how many numbers below n pass a test
 abbrev pub countBelow : (ℕ → Bool) → ℕ → ℕ
@@ -35,25 +36,18 @@ pub pairs-counted :
 unfolding pairOf sizeOf pick
 pairs-counted = (refl, refl)
 
--- every byte is a push list, and the 256 lists differ: the boxes of a set, ticked again, are the byte
-abbrev retick : List ℕ → ℕ → ℕ
-retick [] set = 0
-retick (r ∷ rs) set = pick (eqb (set / 2 ^ r % 2) 1) (2 ^ length rs) 0 + retick rs set
+-- every byte is a push list, and the 256 lists differ: the boxes of a byte's registers, ticked again, are the byte
+abbrev Again : List ℕ → Type 0
+Again rs = (k : ℕ) → k < 256 → ticksOfSet rs (ticked rs k) ≡ k
 
-abbrev Apart : List ℕ → Type 0
-Apart rs = (a b : ℕ) → a < 256 → b < 256 → ticked rs a ≡ ticked rs b → a ≡ b
-
-apart : (rs : List ℕ) → T (upto (λ k. eqb (retick rs (ticked rs k)) k) 256) → Apart rs
-apart rs t a b ha hb e =
-    let same : (k : ℕ) → k < 256 → retick rs (ticked rs k) ≡ k =
-    λ k h. eqb→eq (retick rs (ticked rs k)) k (below (λ (n : ℕ). eqb (retick rs (ticked rs n)) n) 256 t k h)
-    in
-    sym (same a ha) ∙ ap (retick rs) e ∙ same b hb
+again : (rs : List ℕ) → T (upto (λ k. eqb (ticksOfSet rs (ticked rs k)) k) 256) → Again rs
+again rs t k h = eqb→eq (ticksOfSet rs (ticked rs k)) k (below (λ (n : ℕ). eqb (ticksOfSet rs (ticked rs n)) n) 256 t k h)
 
 pub lists-differ : (own a b : ℕ) → a < 256 → b < 256 → registersOf own a ≡ registersOf own b → a ≡ b
 unfolding registersOf otherOf pick
-lists-differ own =
-    by-pick (λ (other : ℕ). Apart (PC ∷ other ∷ Y ∷ X ∷ DP ∷ B ∷ A ∷ CC ∷ [])) (eqb own U) (apart (boxes U) tt) (apart (boxes S) tt)
+lists-differ own a b ha hb e =
+    let same : Again (boxes own) = by-row Again own (again (boxes U) tt) (again (boxes S) tt) in
+    sym (same a ha) ∙ ap (ticksOfSet (boxes own)) e ∙ same b hb
 
 -- n numbers from k on
 abbrev from : ℕ → ℕ → List ℕ

@@ -2,6 +2,8 @@ pub mod Tests
 pub mod Signs
 pub mod Round
 pub mod Named
+pub mod Boxes
+pub mod Sets
 pub mod ListsRound
 pub mod Counts
 pub mod Told

@@ -1,35 +1,32 @@
 -- Reading back a push byte gives the list's set, and a transfer byte its two registers. A walk of boxes ticks a bit for each, and a walk of the same
 -- boxes reads that bit, whatever the boxes are; each register's code is read as that register.
 -- Assumes nothing.
-use mathlib.Core.Path.{_≡_, refl, sym, ap, subst, _∙_}
-use mathlib.Core.Bool.{Bool, true, false, not, _||_, true≢false}
+use mathlib.Core.Path.{_≡_, refl, sym, ap, _∙_}
+use mathlib.Core.Bool.{Bool, true, false, not, _||_}
 use mathlib.Core.List.{List, [], _∷_}
 use Prim.Native.Nat.{ℕ, zero, suc, _+_, _*_, _/_, _%_, _^_, _<_}
-use native.Mathlib.Nat.{two-pow-succ, pow-succ', mul-add-div-right, mul-assoc}
+use native.Mathlib.Nat.{pow-succ', mul-add-div-right, mul-assoc}
 use native.Mathlib.Omega.{arith}
 use lib.Dec.{eqb, ltb, eqb→eq, ltb→lt}
 use lib.ListN.{length, take, getD, List·getD-eq-default}
 use lib.Pow.{pow-pos, high}
 use borrow.Author.Tests.{ltb-true, ltb-false, eqb-true, leb-false, not-false}
 use Rattle.ground.specs.Choice.{pick}
-use Rattle.ground.proofs.Choices.{by-test, by-pick}
+use Rattle.ground.proofs.Choices.{by-test}
 use Rattle.ground.proofs.Ranges.{below}
 use Rattle.postbytes.specs.declared.Listed.{Listed}
 use Rattle.postbytes.specs.declared.Pair.the-variants.{Is}
-use Rattle.postbytes.specs.Registers.{U, S, unknownRegister}
+use Rattle.postbytes.specs.Registers.{unknownRegister}
 use Rattle.postbytes.specs.Lists.{anyUnknown, strangeList, among, notStack, otherOf, boxes, sizeOf}
 use Rattle.postbytes.specs.ListsWritten.{ticks, pushByteOf, pushOf, codes, codeOf, pairedOf}
 use Rattle.postbytes.specs.ListsRead.{ticked, registersOf, coded, pairOf}
 use Rattle.postbytes.specs.Meanings.{marks, setOf}
 use Rattle.ground.proofs.Tests.{neither-left, neither-right}
+use Rattle.postbytes.proofs.Boxes.{by-stack, boxes-low}
 
 -- n boxes make a number of n bits
 pub ticks-low : (rs list : List ℕ) → ticks rs list < 2 ^ length rs
-ticks-low [] list = omega arith
-ticks-low (r ∷ rs) list =
-    let h = ticks-low rs list in
-    let w : 2 ^ suc (length rs) ≡ 2 ^ length rs + 2 ^ length rs = two-pow-succ (length rs) in
-    by-pick (λ (b : ℕ). b + ticks rs list < 2 ^ suc (length rs)) (among r list) (omega arith) (omega arith)
+ticks-low rs list = boxes-low (λ r. among r list) (λ l. ticks l list) refl (λ r l. refl) rs
 
 even : (h q : ℕ) → (h * 2 + q) % 2 ≡ q % 2
 even h q = omega arith
@@ -69,20 +66,8 @@ boxes-back (r ∷ rs) list =
 -- the eight boxes are all registers but D, which has no bit, and the own stack pointer, which is not in the list
 all-but : (own : ℕ) (list : List ℕ) → notStack own ≡ false → among own list ≡ false → marks (boxes own) list ≡ setOf list
 unfolding setOf otherOf pick
-all-but own list s a = go (eqb own S) (eqb own U) refl refl s
-  where
-    go : (x y : Bool) → eqb own S ≡ x → eqb own U ≡ y → not (x || y) ≡ false → marks (boxes own) list ≡ setOf list
-    go true y e f _ =
-        let k : own ≡ S = eqb-true own S e in
-        let o : otherOf own ≡ U = ap otherOf k in
-        let m : among S list ≡ false = subst (λ (r : ℕ). among r list ≡ false) k a in
-        rw (o, m) (omega arith)
-    go false true e f _ =
-        let k : own ≡ U = eqb-true own U f in
-        let o : otherOf own ≡ S = ap otherOf k in
-        let m : among U list ≡ false = subst (λ (r : ℕ). among r list ≡ false) k a in
-        rw (o, m) (omega arith)
-    go false false e f z = absurd (true≢false z)
+all-but own list s a =
+    by-stack (λ (r : ℕ). among r list ≡ false → marks (boxes r) list ≡ setOf list) own s (λ m. rw m (omega arith)) (λ m. rw m (omega arith)) a
 
 -- reading the push byte of a list gives the list's set
 pub push-back :

@@ -27,11 +27,3 @@ module _ (f : ℕ → Bool) (rs : List ℕ) (n i : ℕ) (h : n ≤ length rs) wh
   ended l =
       let e : length (take n rs) ≡ n = length-take-le n rs h in
       ap (anyOf f) (drop-of-length-le (take n rs) {i = i} (omega arith))
-
--- eight boxes, added as code does and as a walk of them does
-pub eight : (a b c d e f g h : ℕ) → a + b + c + d + e + f + g + h ≡ a + (b + (c + (d + (e + (f + (g + (h + 0)))))))
-eight a b c d e f g h = omega arith
-
--- and nine registers
-pub nine : (a b c d e f g h i : ℕ) → a + b + c + d + e + f + g + h + i ≡ a + (b + (c + (d + (e + (f + (g + (h + (i + 0))))))))
-nine a b c d e f g h i = omega arith

@@ -36,7 +36,9 @@ notStack own = not (eqb own S || eqb own U)
 unfoldable pub otherOf : ℕ → ℕ
 otherOf own = pick (eqb own U) S U
 
--- the sheet's push byte, bit 7 to bit 0
+-- the sheet's row of boxes of the push byte, bit 7 to bit 0:
+--     PSHS, PULS    | PC | U | Y | X | DP | B | A | CC |
+--     PSHU, PULU    | PC | S | Y | X | DP | B | A | CC |
 abbrev pub boxes : ℕ → List ℕ
 boxes own = PC ∷ otherOf own ∷ Y ∷ X ∷ DP ∷ B ∷ A ∷ CC ∷ []
 

@@ -1,5 +1,5 @@
 -- 01: "Pushes: the sheet's bits; D is A with B; naming one twice changes nothing. EXG/TFR codes: the sheet's, source high; both of one size."
-use Prim.Native.Nat.{ℕ, _+_, _*_, _^_}
+use Prim.Native.Nat.{ℕ, _+_, _*_, _/_, _%_, _^_}
 use mathlib.Core.Bool.{_||_, not}
 use mathlib.Core.List.{List, [], _∷_}
 use lib.Dec.{eqb}
@@ -19,6 +19,11 @@ listed b = record { refusal = 0; byte = b }
 abbrev pub ticks : List ℕ → List ℕ → ℕ
 ticks [] list = 0
 ticks (r ∷ rs) list = pick (among r list) (2 ^ length rs) 0 + ticks rs list
+
+-- the same of a set, which has bit r for register r
+abbrev pub ticksOfSet : List ℕ → ℕ → ℕ
+ticksOfSet [] set = 0
+ticksOfSet (r ∷ rs) set = pick (eqb (set / 2 ^ r % 2) 1) (2 ^ length rs) 0 + ticksOfSet rs set
 
 unfoldable pub pushByteOf : ℕ → List ℕ → ℕ
 pushByteOf own list = ticks (boxes own) list

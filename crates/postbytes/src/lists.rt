@@ -15,12 +15,13 @@ use crate::numbers::Y;
 use ground::refusals::BAD_REGISTER;
 use ground::refusals::UNKNOWN;
 ghost use mathlib.Core.Path.{_≡_};
+ghost use mathlib.Core.List.{[], _∷_};
 ghost use Prim.Native.Nat.{_/_, _%_, _^_, _<_, _≤_};
 ghost use lib.Dec.{eqb};
 ghost use lib.ListN.{take};
 ghost use Rattle.ground.specs.Choice.{pick};
-ghost use Rattle.postbytes.specs.Lists.{among, anyUnknown, strangeList, covers, otherOf, sizeOf};
-ghost use Rattle.postbytes.specs.ListsWritten.{refuseList, listed, pushByteOf, pushOf, codeOf, pairedOf};
+ghost use Rattle.postbytes.specs.Lists.{among, anyUnknown, strangeList, covers, otherOf, boxes, sizeOf};
+ghost use Rattle.postbytes.specs.ListsWritten.{refuseList, listed, ticksOfSet, pushOf, codeOf, pairedOf};
 ghost use Rattle.postbytes.specs.ListsRead.{registersOf, pairOf};
 ghost use Rattle.postbytes.specs.Meanings.{setOf};
 
@@ -98,53 +99,93 @@ pub fn among(register: u8, registers: [u8; 8], count: u8) -> bool
     among_few(register, registers, count)
 }
 
-// A register's box of the push byte, or its bit in a set, ticked if the register is in the list.
-fn tick(register: u8, registers: [u8; 8], count: u8, bit: u16) -> u16
-    ensures is { λ r. ⌜ r ≡ pick (among register (take count registers)) bit 0 ⌝ }
-    ensures most { λ r. ⌜ r ≤ bit ⌝ }
+// A register as a set: bit n for register n. D is A with B, and has no bit of its own.
+fn named(register: u8) -> u16
+    ensures { λ r. ⌜ r ≡ setOf (register ∷ []) ⌝ }
 {
-    if among(register, registers, count) {
-        bit
-    } else {
-        0
+    if register == D {
+        return (1 << A) | (1 << B);
     }
+    if register < 10 { 1 << register } else { 0 }
 }
 
-// The other stack's pointer.
-fn other(own: u8) -> u8
+// The registers of a list, as a set. Each is looked at once: a set has no order and holds nothing twice.
+pub fn set_of(registers: [u8; 8], count: u8) -> u16
+    ensures { λ r. ⌜ r ≡ setOf (take count registers) ⌝ }
+{
+    let end = count as usize;
+    let mut set: u16 = 0;
+    let mut i: usize = 0;
+    while i < 8 {
+        if end <= i {
+            return set;
+        }
+        set = set | named(registers[i]);
+        i += 1;
+    }
+    set
+}
+
+// The box of the other stack's pointer: U of PSHS and PULS, S of PSHU and PULU.
+fn u_or_s(own: u8) -> u8
     ensures { λ r. ⌜ r ≡ otherOf own ⌝ }
 {
     if own == U { S } else { U }
 }
 
-// The sheet's eight boxes, bit 7 to bit 0, of the registers of the list.
-fn push_byte(own: u8, registers: [u8; 8], count: u8) -> u8
-    ensures { λ r. ⌜ r ≡ pushByteOf own (take count registers) ⌝ }
+// The sheet's push byte is a row of eight boxes, bit 7 to bit 0:
+//
+//     PSHS, PULS    | PC | U | Y | X | DP | B | A | CC |
+//     PSHU, PULU    | PC | S | Y | X | DP | B | A | CC |
+//
+// A list is written and read by this row: the box at place i is bit 7 - i.
+fn boxes(own: u8) -> [u8; 8]
+    ensures { λ r. ⌜ r ≡ boxes own ⌝ }
 {
-    let boxes = tick(PC, registers, count, 0x80)
-        + tick(other(own), registers, count, 0x40)
-        + tick(Y, registers, count, 0x20)
-        + tick(X, registers, count, 0x10)
-        + tick(DP, registers, count, 0x08)
-        + tick(B, registers, count, 0x04)
-        + tick(A, registers, count, 0x02)
-        + tick(CC, registers, count, 0x01);
-    boxes as u8
+    [PC, u_or_s(own), Y, X, DP, B, A, CC]
 }
 
-// The registers of a list, as a set: bit n for register n. D is A with B, and has no bit of its own.
-pub fn set_of(registers: [u8; 8], count: u8) -> u16
-    ensures { λ r. ⌜ r ≡ setOf (take count registers) ⌝ }
+fn has(number: u16, bit: u8) -> bool
+    requires { ⌜ bit < 16 ⌝ }
+    ensures { λ r. ⌜ r ≡ eqb (number / 2 ^ bit % 2) 1 ⌝ }
 {
-    tick(A, registers, count, 0x001)
-        + tick(B, registers, count, 0x002)
-        + tick(X, registers, count, 0x008)
-        + tick(Y, registers, count, 0x010)
-        + tick(U, registers, count, 0x020)
-        + tick(S, registers, count, 0x040)
-        + tick(PC, registers, count, 0x080)
-        + tick(CC, registers, count, 0x100)
-        + tick(DP, registers, count, 0x200)
+    (number >> bit) % 2 == 1
+}
+
+// A bit of one number as a bit of another: a register's in a set, and its box's in a push byte.
+fn moved(number: u16, from: u8, to: u8) -> u16
+    requires { ⌜ (from < 16) × (to < 16) ⌝ }
+    ensures { λ r. ⌜ r ≡ pick (eqb (number / 2 ^ from % 2) 1) (2 ^ to) 0 ⌝ }
+{
+    if has(number, from) { 1 << to } else { 0 }
+}
+
+// The boxes of a set's registers, ticked.
+fn push_byte(own: u8, set: u16) -> u8
+    ensures { λ r. ⌜ r ≡ ticksOfSet (boxes own) set ⌝ }
+{
+    let row = boxes(own);
+    let mut byte: u16 = 0;
+    let mut i: u8 = 0;
+    while i < 8 {
+        byte += moved(set, row[i as usize], 7 - i);
+        i += 1;
+    }
+    byte as u8
+}
+
+// The registers whose boxes are ticked in a push byte, as a set.
+pub fn registers_of(own: u8, byte: u8) -> u16
+    ensures { λ r. ⌜ r ≡ registersOf own byte ⌝ }
+{
+    let row = boxes(own);
+    let mut set: u16 = 0;
+    let mut i: u8 = 0;
+    while i < 8 {
+        set += moved(byte as u16, 7 - i, row[i as usize]);
+        i += 1;
+    }
+    set
 }
 
 // The push byte of PSHS and PULS, whose own pointer is S, or of PSHU and PULU, whose own is U.
@@ -155,42 +196,12 @@ pub fn push(own: u8, registers: [u8; 8], count: u8) -> Listed
     if bad {
         return refused(UNKNOWN);
     }
-    let barred = (count == 0) | among(own, registers, count);
+    let set = set_of(registers, count);
+    let barred = (count == 0) | has(set, own);
     if barred {
         return refused(BAD_REGISTER);
     }
-    listed(push_byte(own, registers, count))
-}
-
-// A box of a push byte, as the bit that its register has in a set.
-fn box_of(byte: u8, bit: u8, set: u16) -> u16
-    requires { ⌜ 0 < bit ⌝ }
-    ensures is { λ r. ⌜ r ≡ pick (eqb (byte / bit % 2) 1) set 0 ⌝ }
-    ensures most { λ r. ⌜ r ≤ set ⌝ }
-{
-    if byte / bit % 2 == 1 { set } else { 0 }
-}
-
-// The other stack's pointer as a set.
-fn other_set(own: u8) -> u16
-    ensures is { λ r. ⌜ r ≡ 2 ^ otherOf own ⌝ }
-    ensures most { λ r. ⌜ r ≤ 64 ⌝ }
-{
-    if own == U { 0x040 } else { 0x020 }
-}
-
-// The registers that a push byte names, as a set: bit n for register n. The boxes are those of PC, the other stack's pointer, Y, X, DP, B, A, CC.
-pub fn registers_of(own: u8, byte: u8) -> u16
-    ensures { λ r. ⌜ r ≡ registersOf own byte ⌝ }
-{
-    box_of(byte, 0x80, 0x080)
-        + box_of(byte, 0x40, other_set(own))
-        + box_of(byte, 0x20, 0x010)
-        + box_of(byte, 0x10, 0x008)
-        + box_of(byte, 0x08, 0x200)
-        + box_of(byte, 0x04, 0x002)
-        + box_of(byte, 0x02, 0x001)
-        + box_of(byte, 0x01, 0x100)
+    listed(push_byte(own, set))
 }
 
 // The sheet's transfer codes of A, B, D, X, Y, U, S, PC, CC, DP.

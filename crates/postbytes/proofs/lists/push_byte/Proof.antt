@@ -1,86 +1,102 @@
--- `postbytes::lists::push_byte` meets its contract.
+-- `postbytes::lists::push_byte` meets its contract. The loop's invariant: the boxes ticked, and those that are left of the row, are the whole row's.
 -- Assumes nothing.
-use mathlib.Core.Path.{_∙_}
+use mathlib.Core.Path.{_≡_, refl}
+use mathlib.Core.List.{List}
+use Prim.Native.Nat.{ℕ, _+_, _-_, _<_, _≤_}
+use native.Mathlib.Nat.{zero-add}
+use native.Mathlib.Omega.{arith}
+use lib.ListN.{drop, getD}
 use borrow.Author.Needs.{needs}
-use Rattle.postbytes.proofs.Named.{eight}
-use Rattle.postbytes.specs.ListsWritten.{pushByteOf}
+use Rattle.postbytes.specs.Lists.{boxes}
+use Rattle.postbytes.specs.ListsWritten.{ticksOfSet}
+use Rattle.postbytes.proofs.Boxes.{box-small, set-ticks-small, movedBit, boxes-ended, box-added}
 use Rattle.postbytes.proofs.lists.push_byte.Statement.{statement}
 use Rattle.postbytes.proofs.lists.push_byte.Tie as tie
 
-tick-requires : tie.Need-tick-requires
-tick-requires c κs = search needs
+-- a turn of the loop
+turn :
+    (own set i byte m : ℕ) {row : List ℕ} →
+    row ≡ boxes own →
+    byte + ticksOfSet (drop i row) set ≡ ticksOfSet row set →
+    i < 8 →
+    m ≡ movedBit set (getD row i 0) (7 - i) →
+    (byte + m ≤ ticksOfSet (boxes own) set) × (byte + m + ticksOfSet (drop (i + 1) row) set ≡ ticksOfSet row set)
+turn own set i byte m same inv h e = box-added (λ rs. ticksOfSet rs set) own i byte same inv (movedBit set) (λ r rs. refl) m h e
 
-other-requires : tie.Need-other-requires
-other-requires c κs = search needs
+abbrev Inv-loop : tie.InvT-loop
+Inv-loop own set row byte₀ i₀ byte i = (i ≤ 8) × (byte + ticksOfSet (drop i row) set ≡ ticksOfSet row set)
 
-tick-requires-2 : tie.Need-tick-requires-2
-tick-requires-2 c κs = search needs
+abbrev μ-loop : tie.MeasureT-loop
+μ-loop own set row byte₀ i₀ byte i = 8 - i
 
-add-boxes : tie.Need-add-boxes
-add-boxes c = search needs
+boxes-requires : tie.Need-boxes-requires Inv-loop μ-loop
+boxes-requires c κs = search needs
 
-tick-requires-3 : tie.Need-tick-requires-3
-tick-requires-3 c κs = search needs
+loop-holds : tie.Need-loop-holds Inv-loop μ-loop
+loop-holds c = (omega arith, zero-add _)
 
-add-boxes-2 : tie.Need-add-boxes-2
-add-boxes-2 c = search needs
+cast-moved : tie.Need-cast-moved Inv-loop μ-loop
+cast-moved c = search needs
 
-tick-requires-4 : tie.Need-tick-requires-4
-tick-requires-4 c κs = search needs
+array-read-moved : tie.Need-array-read-moved Inv-loop μ-loop
+array-read-moved c = omega arith
 
-add-boxes-3 : tie.Need-add-boxes-3
-add-boxes-3 c = search needs
+sub-moved : tie.Need-sub-moved Inv-loop μ-loop
+sub-moved c = omega arith
 
-tick-requires-5 : tie.Need-tick-requires-5
-tick-requires-5 c κs = search needs
+moved-requires : tie.Need-moved-requires Inv-loop μ-loop
+moved-requires c κs =
+    let small = box-small _ (c .before .loop .i) (c .before .before .boxes .ensures) (omega arith) in
+    (small, omega arith)
 
-add-boxes-4 : tie.Need-add-boxes-4
-add-boxes-4 c = search needs
+add-byte : tie.Need-add-byte Inv-loop μ-loop
+add-byte c =
+    let here = c .before .before in
+    let a = here .before .before .args in
+    let t = turn (a .own) (a .set) (here .loop .i) (here .loop .byte) (c .moved .result) (here .before .boxes .ensures) (here .loop .inv .1) (omega arith) (c .moved .ensures) in
+    omega (arith, t .0, set-ticks-small (a .own) (a .set))
 
-tick-requires-6 : tie.Need-tick-requires-6
-tick-requires-6 c κs = search needs
+add-i : tie.Need-add-i Inv-loop μ-loop
+add-i c = omega arith
 
-add-boxes-5 : tie.Need-add-boxes-5
-add-boxes-5 c = search needs
+loop-less : tie.Need-loop-less Inv-loop μ-loop
+loop-less c = omega arith
 
-tick-requires-7 : tie.Need-tick-requires-7
-tick-requires-7 c κs = search needs
+loop-again : tie.Need-loop-again Inv-loop μ-loop
+loop-again c =
+    let here = c .before .before in
+    let a = here .before .before .args in
+    let t = turn (a .own) (a .set) (here .loop .i) (here .loop .byte) (c .moved .result) (here .before .boxes .ensures) (here .loop .inv .1) (omega arith) (c .moved .ensures) in
+    (omega arith, t .1)
 
-add-boxes-6 : tie.Need-add-boxes-6
-add-boxes-6 c = search needs
+cast-result : tie.Need-cast-result Inv-loop μ-loop
+cast-result c =
+    let a = c .before .before .before .args in
+    let e : c .before .loop .byte ≡ ticksOfSet (boxes (a .own)) (a .set) =
+    boxes-ended (λ rs. ticksOfSet rs (a .set)) (a .own) (c .before .loop .i) (c .before .loop .byte) (c .before .before .boxes .ensures) (c .before .loop .inv .1) refl (omega arith)
+    in
+    omega (arith, e, set-ticks-small (a .own) (a .set))
 
-tick-requires-8 : tie.Need-tick-requires-8
-tick-requires-8 c κs = search needs
-
-add-boxes-7 : tie.Need-add-boxes-7
-add-boxes-7 c = search needs
-
-cast-result : tie.Need-cast-result
-cast-result c = search needs
-
-returns : tie.Need-returns
-unfolding pushByteOf
-returns c = eight _ _ _ _ _ _ _ _ ∙ (cc)
+returns : tie.Need-returns Inv-loop μ-loop
+returns c =
+    let a = c .before .before .before .args in
+    boxes-ended (λ rs. ticksOfSet rs (a .set)) (a .own) (c .before .loop .i) (c .before .loop .byte) (c .before .before .boxes .ensures) (c .before .loop .inv .1) refl (omega arith)
 
 pub push-byte-spec : {M : Type 1} → statement M
 push-byte-spec =
     tie.close
     (tie.spec
-    tick-requires
-    other-requires
-    tick-requires-2
-    add-boxes
-    tick-requires-3
-    add-boxes-2
-    tick-requires-4
-    add-boxes-3
-    tick-requires-5
-    add-boxes-4
-    tick-requires-6
-    add-boxes-5
-    tick-requires-7
-    add-boxes-6
-    tick-requires-8
-    add-boxes-7
+    Inv-loop
+    μ-loop
+    boxes-requires
+    loop-holds
+    cast-moved
+    array-read-moved
+    sub-moved
+    moved-requires
+    add-byte
+    add-i
+    loop-less
+    loop-again
     cast-result
     returns)

@@ -1,82 +1,94 @@
--- `postbytes::lists::registers_of` meets its contract.
+-- `postbytes::lists::registers_of` meets its contract. The loop's invariant: the registers read, and those that are left of the row, are the whole row's.
 -- Assumes nothing.
-use mathlib.Core.Path.{_∙_}
-use Rattle.postbytes.proofs.Named.{eight}
-use Rattle.postbytes.specs.ListsRead.{registersOf}
+use mathlib.Core.Path.{_≡_, refl}
+use mathlib.Core.List.{List}
+use Prim.Native.Nat.{ℕ, _+_, _-_, _<_, _≤_}
+use native.Mathlib.Nat.{zero-add}
+use native.Mathlib.Omega.{arith}
+use lib.ListN.{drop, getD}
 use borrow.Author.Needs.{needs}
+use Rattle.postbytes.specs.Lists.{boxes}
+use Rattle.postbytes.specs.ListsRead.{ticked, registersOf}
+use Rattle.postbytes.proofs.Boxes.{box-small, ticked-small, movedBit, boxes-ended, box-added}
 use Rattle.postbytes.proofs.lists.registers_of.Statement.{statement}
 use Rattle.postbytes.proofs.lists.registers_of.Tie as tie
 
-box-of-requires : tie.Need-box-of-requires
-box-of-requires c κs = search needs
+-- a turn of the loop
+turn :
+    (own byte i set m : ℕ) {row : List ℕ} →
+    row ≡ boxes own →
+    set + ticked (drop i row) byte ≡ ticked row byte →
+    i < 8 →
+    m ≡ movedBit byte (7 - i) (getD row i 0) →
+    (set + m ≤ ticked (boxes own) byte) × (set + m + ticked (drop (i + 1) row) byte ≡ ticked row byte)
+turn own byte i set m same inv h e = box-added (λ rs. ticked rs byte) own i set same inv (λ r n. movedBit byte n r) (λ r rs. refl) m h e
 
-other-set-requires : tie.Need-other-set-requires
-other-set-requires c κs = search needs
+abbrev Inv-loop : tie.InvT-loop
+Inv-loop own byte row set₀ i₀ set i = (i ≤ 8) × (set + ticked (drop i row) byte ≡ ticked row byte)
 
-box-of-requires-2 : tie.Need-box-of-requires-2
-box-of-requires-2 c κs = search needs
+abbrev μ-loop : tie.MeasureT-loop
+μ-loop own byte row set₀ i₀ set i = 8 - i
 
-add-result : tie.Need-add-result
-add-result c = search needs
+boxes-requires : tie.Need-boxes-requires Inv-loop μ-loop
+boxes-requires c κs = search needs
 
-box-of-requires-3 : tie.Need-box-of-requires-3
-box-of-requires-3 c κs = search needs
+loop-holds : tie.Need-loop-holds Inv-loop μ-loop
+loop-holds c = (omega arith, zero-add _)
 
-add-result-2 : tie.Need-add-result-2
-add-result-2 c = search needs
+sub-moved : tie.Need-sub-moved Inv-loop μ-loop
+sub-moved c = omega arith
 
-box-of-requires-4 : tie.Need-box-of-requires-4
-box-of-requires-4 c κs = search needs
+cast-moved : tie.Need-cast-moved Inv-loop μ-loop
+cast-moved c = search needs
 
-add-result-3 : tie.Need-add-result-3
-add-result-3 c = search needs
+array-read-moved : tie.Need-array-read-moved Inv-loop μ-loop
+array-read-moved c = omega arith
 
-box-of-requires-5 : tie.Need-box-of-requires-5
-box-of-requires-5 c κs = search needs
+moved-requires : tie.Need-moved-requires Inv-loop μ-loop
+moved-requires c κs =
+    let small = box-small _ (c .before .loop .i) (c .before .before .boxes .ensures) (omega arith) in
+    (omega arith, small)
 
-add-result-4 : tie.Need-add-result-4
-add-result-4 c = search needs
+add-set : tie.Need-add-set Inv-loop μ-loop
+add-set c =
+    let here = c .before .before in
+    let a = here .before .before .args in
+    let t = turn (a .own) (a .byte) (here .loop .i) (here .loop .set) (c .moved .result) (here .before .boxes .ensures) (here .loop .inv .1) (omega arith) (c .moved .ensures) in
+    omega (arith, t .0, ticked-small (a .own) (a .byte))
 
-box-of-requires-6 : tie.Need-box-of-requires-6
-box-of-requires-6 c κs = search needs
+add-i : tie.Need-add-i Inv-loop μ-loop
+add-i c = omega arith
 
-add-result-5 : tie.Need-add-result-5
-add-result-5 c = search needs
+loop-less : tie.Need-loop-less Inv-loop μ-loop
+loop-less c = omega arith
 
-box-of-requires-7 : tie.Need-box-of-requires-7
-box-of-requires-7 c κs = search needs
+loop-again : tie.Need-loop-again Inv-loop μ-loop
+loop-again c =
+    let here = c .before .before in
+    let a = here .before .before .args in
+    let t = turn (a .own) (a .byte) (here .loop .i) (here .loop .set) (c .moved .result) (here .before .boxes .ensures) (here .loop .inv .1) (omega arith) (c .moved .ensures) in
+    (omega arith, t .1)
 
-add-result-6 : tie.Need-add-result-6
-add-result-6 c = search needs
-
-box-of-requires-8 : tie.Need-box-of-requires-8
-box-of-requires-8 c κs = search needs
-
-add-result-7 : tie.Need-add-result-7
-add-result-7 c = search needs
-
-returns : tie.Need-returns
+returns : tie.Need-returns Inv-loop μ-loop
 unfolding registersOf
-returns c = eight _ _ _ _ _ _ _ _ ∙ (cc)
+returns c =
+    let a = c .before .before .before .args in
+    boxes-ended (λ rs. ticked rs (a .byte)) (a .own) (c .before .loop .i) (c .before .loop .set) (c .before .before .boxes .ensures) (c .before .loop .inv .1) refl (omega arith)
 
 pub registers-of-spec : {M : Type 1} → statement M
 registers-of-spec =
     tie.close
     (tie.spec
-    box-of-requires
-    other-set-requires
-    box-of-requires-2
-    add-result
-    box-of-requires-3
-    add-result-2
-    box-of-requires-4
-    add-result-3
-    box-of-requires-5
-    add-result-4
-    box-of-requires-6
-    add-result-5
-    box-of-requires-7
-    add-result-6
-    box-of-requires-8
-    add-result-7
+    Inv-loop
+    μ-loop
+    boxes-requires
+    loop-holds
+    sub-moved
+    cast-moved
+    array-read-moved
+    moved-requires
+    add-set
+    add-i
+    loop-less
+    loop-again
     returns)
