@@ -100,6 +100,5 @@ def seconds():
 
 def boxes(own):
     """The registers of the push byte's boxes, bit 7 first, where the stack pointer is S or U."""
-    row = re.search(r"^Push byte, bit 7 to bit 0: (.*)\.$", page("SHEET.md"), re.M).group(1)
-    other = {"S": "U", "U": "S"}[own]
-    return [REGISTERS[other if name.startswith("S or U") else name] for name in row.split(", ")]
+    row = re.search(rf"^\| PSH{own}, PUL{own} \| (.*) \|$", page("SHEET.md"), re.M).group(1)
+    return [REGISTERS[name] for name in row.split(" | ")]

@@ -120,7 +120,7 @@ pub fn set_of(registers: [u8; 8], count: u8) -> u16
         if end <= i {
             return set;
         }
-        set = set | named(registers[i]);
+        set |= named(registers[i]);
         i += 1;
     }
     set

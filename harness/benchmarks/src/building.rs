@@ -1,5 +1,5 @@
 //! Building instructions: this library against the Rust's `try_new` and `build`.
-use crate::records::{self, Ours, ADDRESS};
+use crate::records::{self, Line, Ours, ADDRESS};
 use coco::instructions::Descriptor;
 use coco::obj::{Instruction, ObjectProducer};
 use coco::parse::{LabelResolver, OperandDescriptor};
@@ -100,10 +100,10 @@ pub fn image(o: &Ours) -> Vec<u8> {
 }
 
 /// Both sides build as many bytes.
-pub fn agree() {
-    let mut o = records::ours();
+pub fn agree(lines: &[Line]) {
+    let mut o = records::ours(lines);
     let mut kept = Vec::new();
-    let theirs = rust_fresh(records::theirs(), &mut kept);
+    let theirs = rust_fresh(records::theirs(lines), &mut kept);
     assert_eq!(fresh(&mut o), theirs);
     assert_eq!(given(&o), theirs);
     assert_eq!(again(&o, &mut made(&o)), theirs);

@@ -20,14 +20,15 @@ use std::hint::black_box;
 const LONGEST: usize = 65_504;
 
 struct Data {
+    lines: Vec<records::Line>,
     ours: records::Ours,
     image: Vec<u8>,
     tables: texts::Tables,
     text: Vec<u8>,
 }
 
-fn data(size: usize) -> Data {
-    let ours = records::ours();
+fn data(lines: Vec<records::Line>, size: usize) -> Data {
+    let ours = records::ours(&lines);
     let once = building::image(&ours);
     // Whole instructions only, so that every decoder reads to the end.
     let mut image: Vec<u8> = Vec::new();
@@ -46,7 +47,7 @@ fn data(size: usize) -> Data {
     let mut text = vec![0; 4 * size + 64];
     let length = texts::write(&tables, &mut text);
     text.truncate(length);
-    Data { ours, image, tables, text }
+    Data { lines, ours, image, tables, text }
 }
 
 fn run_length(bytes: &[u8]) -> usize {
@@ -68,19 +69,19 @@ fn table(title: &str, unit: &str, per: usize, times: &[(String, f64)]) {
     }
 }
 
-fn compare_builds(d: &Data) {
+fn compare_builds(what: &str, d: &Data) {
     let n = records::HOW_MANY;
-    let mut ours = records::ours();
+    let mut ours = records::ours(&d.lines);
     let mut kept = building::made(&d.ours);
     let mut rust_kept = Vec::new();
-    building::rust_fresh(records::theirs(), &mut rust_kept);
+    building::rust_fresh(records::theirs(&d.lines), &mut rust_kept);
     // The Rust's operands are made, and its instructions dropped, outside the time.
     let operands = RefCell::new(Vec::new());
     let built = RefCell::new(Vec::new());
     let ahead = |times: u32| {
         built.borrow_mut().clear();
         built.borrow_mut().reserve(n * times as usize);
-        *operands.borrow_mut() = (0..times).map(|_| records::theirs()).collect();
+        *operands.borrow_mut() = (0..times).map(|_| records::theirs(&d.lines)).collect();
     };
     let times = race(vec![
         rival("this library: jw_node and jw_assemble", || { black_box(building::fresh(&mut ours)); }),
@@ -90,15 +91,15 @@ fn compare_builds(d: &Data) {
             black_box(building::rust_fresh(operands, &mut built.borrow_mut()));
         }),
     ]);
-    table("Fresh builds", "instruction", n, &times);
+    table(&format!("Fresh builds{what}"), "instruction", n, &times);
     let times = race(vec![
         rival("this library: jw_node and jw_build", || { black_box(building::again(&d.ours, &mut kept)); }),
         rival("the Rust: build", || { black_box(building::rust_again(&mut rust_kept)); }),
     ]);
-    table("Kept builds", "instruction", n, &times);
+    table(&format!("Kept builds{what}"), "instruction", n, &times);
 }
 
-fn compare_decoding(d: &Data) {
+fn compare_decoding(what: &str, d: &Data) {
     let n = run_length(&d.image);
     assert_eq!(raw::count(&d.image, 0), Ok(n));
     assert_eq!(capstone::count(&d.image, 0), n, "capstone reads another number of instructions");
@@ -107,7 +108,7 @@ fn compare_decoding(d: &Data) {
         rival("this library: jw_count", || { black_box(raw::count(&d.image, 0).unwrap()); }),
         rival("capstone: cs_disasm_iter, no details", || { black_box(capstone::count(&d.image, 0)); }),
     ]);
-    table(&format!("Decoding, {n} instructions"), "instruction", n, &times);
+    table(&format!("Decoding{what}, {n} instructions"), "instruction", n, &times);
 }
 
 fn compare_texts(d: &Data) {
@@ -159,7 +160,7 @@ fn compare_programs(d: &Data) {
 fn growth() {
     println!("\nGrowth\n\n| bytes | decoding, ns a byte | writing | reading |\n|---|---|---|---|");
     for size in [LONGEST / 16, LONGEST / 4, LONGEST] {
-        let d = data(size);
+        let d = data(records::mix(), size);
         let n = d.image.len();
         let (mut out, mut bytes, mut runs) = (vec![0; d.text.len()], vec![0; n], vec![0; 2]);
         let times = race(vec![
@@ -183,22 +184,27 @@ fn passes() {
     }
 }
 
-/// One piece of work, so often. The Rust's fresh builds count the making of their operands, which `operands` counts alone.
+/// One piece of work, so often; `push-WORK` does it with the longest push list. The Rust's fresh builds count the making of their operands, which `operands`
+/// counts alone.
 fn repeat(work: &str, times: usize) {
-    let mut d = data(LONGEST / 16);
+    let (lines, work) = match work.strip_prefix("push-") {
+        Some(work) => (records::pushes(), work),
+        None => (records::mix(), work),
+    };
+    let mut d = data(lines, LONGEST / 16);
     let (mut out, mut bytes, mut runs) = (vec![0; d.text.len()], vec![0; d.image.len()], vec![0; 2]);
     let mut kept = building::made(&d.ours);
     let mut program = settling::program(records::HOW_MANY);
     let mut theirs = Vec::new();
     let mut instructions = Vec::with_capacity(records::HOW_MANY * (times + 1));
-    building::rust_fresh(records::theirs(), &mut instructions);
+    building::rust_fresh(records::theirs(&d.lines), &mut instructions);
     for _ in 0..times {
         black_box(match work {
             "fresh" => building::fresh(&mut d.ours),
             "given" => building::given(&d.ours),
             "again" => building::again(&d.ours, &mut kept),
-            "operands" => std::mem::ManuallyDrop::new(records::theirs()).len(),
-            "rust-fresh" => building::rust_fresh(records::theirs(), &mut instructions),
+            "operands" => std::mem::ManuallyDrop::new(records::theirs(&d.lines)).len(),
+            "rust-fresh" => building::rust_fresh(records::theirs(&d.lines), &mut instructions),
             "rust-again" => building::rust_again(&mut instructions),
             "decode" => run_length(&d.image),
             "count" => raw::count(&d.image, 0).unwrap(),
@@ -220,10 +226,14 @@ fn main() {
     if let [work, times] = &words[..] {
         return repeat(work, times.parse().expect("a number"));
     }
-    building::agree();
-    let d = data(LONGEST);
-    compare_builds(&d);
-    compare_decoding(&d);
+    let d = data(records::mix(), LONGEST);
+    let pushes = data(records::pushes(), LONGEST);
+    building::agree(&d.lines);
+    building::agree(&pushes.lines);
+    compare_builds("", &d);
+    compare_decoding("", &d);
+    compare_builds(", PSHS of eight registers", &pushes);
+    compare_decoding(", PSHS of eight registers", &pushes);
     compare_texts(&d);
     if words != ["alone"] {
         compare_programs(&d);

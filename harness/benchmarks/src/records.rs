@@ -1,4 +1,4 @@
-//! The records that both sides build: a plain mix of a firmware's instructions, each accepted by both.
+//! The records that both sides build, each accepted by both: a plain mix of a firmware's instructions, and the longest push list.
 use crate::numbers::mode::*;
 use crate::numbers::register::*;
 use crate::numbers::{mode_of, step_of, value_of};
@@ -7,7 +7,7 @@ use coco::parse::{OperandDescriptor, Token, TokenType, ValueNode};
 use joltwagon::Operation;
 
 /// Name, mode, indirect, step, registers, and a number with its width (0 for none).
-type Line = (&'static str, u8, bool, u8, &'static [u8], u16, u8);
+pub type Line = (&'static str, u8, bool, u8, &'static [u8], u16, u8);
 
 const MIX: [Line; 24] = [
     ("LDA", IMMEDIATE, false, 0, &[], 0x05, 8),
@@ -41,8 +41,13 @@ pub const ADDRESS: u16 = 0x0100;
 
 pub const HOW_MANY: usize = 960;
 
-pub fn all() -> impl Iterator<Item = &'static Line> {
-    MIX.iter().cycle().take(HOW_MANY)
+pub fn mix() -> Vec<Line> {
+    MIX.iter().cycle().take(HOW_MANY).copied().collect()
+}
+
+/// The longest push list there is, as often.
+pub fn pushes() -> Vec<Line> {
+    vec![("PSHS", REGISTER, false, 0, &[CC, A, B, DP, X, Y, U, PC], 0, 0); HOW_MANY]
 }
 
 /// Rows of document 01's records (docs/ROWS.md), and for each the node of its value in a table of nodes, if it has one.
@@ -52,9 +57,9 @@ pub struct Ours {
     pub node: Vec<Option<u16>>,
 }
 
-pub fn ours() -> Ours {
+pub fn ours(lines: &[Line]) -> Ours {
     let mut made = Ours { rows: Vec::new(), nodes: Vec::new(), node: Vec::new() };
-    for &(name, mode, indirect, step, registers, number, width) in all() {
+    for &(name, mode, indirect, step, registers, number, width) in lines {
         let mut row = [0; 21];
         row[..7].copy_from_slice(&[Operation::named(name).unwrap().0, mode as u16, indirect as u16, 0, step as u16, 1, registers.len() as u16]);
         row[7..].iter_mut().zip(registers).for_each(|(cell, &r)| *cell = r as u16);
@@ -68,7 +73,7 @@ pub fn ours() -> Ours {
     made
 }
 
-pub fn theirs() -> Vec<(&'static Descriptor, OperandDescriptor)> {
+pub fn theirs(lines: &[Line]) -> Vec<(&'static Descriptor, OperandDescriptor)> {
     instructions::init();
     let make = |&(name, mode, indirect, step, registers, number, width): &Line| {
         let mut od = OperandDescriptor::new();
@@ -80,5 +85,5 @@ pub fn theirs() -> Vec<(&'static Descriptor, OperandDescriptor)> {
         od.value = (width != 0).then(|| ValueNode::new(Token::new(TokenType::Number, number.to_string(), Some(value)), false, None, None));
         (instructions::name_to_descriptor(name).unwrap(), od)
     };
-    all().map(make).collect()
+    lines.iter().map(make).collect()
 }
