@@ -23,6 +23,9 @@ pub mod register {
     pub const U: u8 = 5;
     pub const S: u8 = 6;
     pub const PC: u8 = 7;
+    // Named by the benchmarks alone.
+    #[allow(dead_code)]
+    pub const CC: u8 = 8;
     pub const DP: u8 = 9;
     pub const NAMES: [&str; 10] = ["A", "B", "D", "X", "Y", "U", "S", "PC", "CC", "DP"];
 }
