@@ -1,7 +1,7 @@
 -- The set of a list: naming one register more joins its set to it, and its bits are the registers in the list. So the boxes of the set are those of the list.
 -- Assumes nothing.
 use mathlib.Core.Path.{_≡_, refl, sym, ap, ap₂, _∙_}
-use mathlib.Core.Bool.{Bool, true, false, not, _&&_, _||_, or-false}
+use mathlib.Core.Bool.{Bool, true, false, not, _&&_, _||_, or-false, or-assoc}
 use mathlib.Core.List.{List, [], _∷_}
 use Prim.Native.Nat.{ℕ, zero, suc, _+_, _*_, _/_, _%_, _^_, _<_, _≤_, max}
 use native.Mathlib.Nat.{add-zero, zero-add, div-one}
@@ -13,33 +13,31 @@ use lib.ListN.{length, take, getD}
 use lib.Pow.{shr-shr}
 use borrow.Author.Tests.{ne-eqb}
 use Rattle.ground.specs.Choice.{pick}
-use Rattle.ground.proofs.Choices.{by-pick}
 use Rattle.ground.proofs.Ranges.{both-left, both-right}
 use Rattle.postbytes.specs.Registers.{A, B, D, X, Y, U, S, PC, CC, DP}
 use Rattle.postbytes.specs.Lists.{anyOf, covers, among, notStack, otherOf, boxes}
 use Rattle.postbytes.specs.ListsWritten.{ticks, ticksOfSet, pushByteOf}
+use Rattle.postbytes.specs.Reading.{flag}
 use Rattle.postbytes.specs.Meanings.{setOf}
 use Rattle.postbytes.proofs.Boxes.{by-stack, by-row}
+use Rattle.postbytes.proofs.Told.{flag-told}
 
 -- ---- numbers by their bits
-abbrev bit : Bool → ℕ
-bit b = pick b 1 0
-
-bit-most : (b : Bool) → bit b ≤ 1
-bit-most b = by-pick (λ (n : ℕ). n ≤ 1) b (omega arith) (omega arith)
+flag-most : (b : Bool) → flag b ≤ 1
+flag-most true = omega arith
+flag-most false = omega arith
 
 -- the number of n bits, which are those of f from k on, the lowest first
 abbrev bits : (ℕ → Bool) → ℕ → ℕ → ℕ
 bits f zero k = 0
-bits f (suc n) k = bits f n (suc k) * 2 + bit (f k)
+bits f (suc n) k = bits f n (suc k) * 2 + flag (f k)
 
-half : (n : ℕ) (b : Bool) → ((n * 2 + bit b) / 2 ≡ n) × ((n * 2 + bit b) % 2 ≡ bit b)
+half : (n : ℕ) (b : Bool) → ((n * 2 + flag b) / 2 ≡ n) × ((n * 2 + flag b) % 2 ≡ flag b)
 half n b =
-    let h = bit-most b in
+    let h = flag-most b in
     (omega arith, omega arith)
 
-either : (a b : Bool) → max (bit a) (bit b) ≡ bit (a || b)
-unfolding pick
+either : (a b : Bool) → max (flag a) (flag b) ≡ flag (a || b)
 either true true = refl
 either true false = refl
 either false true = refl
@@ -54,31 +52,26 @@ bits-join f g h e zero k = refl
 bits-join f g h e (suc n) k =
     let x = half (bits f n (suc k)) (f k) in
     let y = half (bits g n (suc k)) (g k) in
-    ap₂ (λ (m b : ℕ). m * 2 + b) (bits-join f g h e n (suc k)) (ap bit (e k) ∙ sym (either (f k) (g k)))
+    ap₂ (λ (m b : ℕ). m * 2 + b) (bits-join f g h e n (suc k)) (ap flag (e k) ∙ sym (either (f k) (g k)))
     ∙ sym (or-step (bits f (suc n) k) (bits g (suc n) k)
     ∙ ap₂ (λ (m b : ℕ). m * 2 + b) (ap₂ bitOr (x .0) (y .0)) (ap₂ max (x .1) (y .1)))
 
-bit-at : (f : ℕ → Bool) (n k j : ℕ) → j < n → bits f n k / 2 ^ j % 2 ≡ bit (f (k + j))
+bit-at : (f : ℕ → Bool) (n k j : ℕ) → j < n → bits f n k / 2 ^ j % 2 ≡ flag (f (k + j))
 bit-at f zero k j h = absurd (omega arith)
 bit-at f (suc n) k zero h =
-    ap (λ (m : ℕ). m % 2) (div-one (bits f (suc n) k)) ∙ half (bits f n (suc k)) (f k) .1 ∙ ap (λ (m : ℕ). bit (f m)) (sym (add-zero k))
+    ap (λ (m : ℕ). m % 2) (div-one (bits f (suc n) k)) ∙ half (bits f n (suc k)) (f k) .1 ∙ ap (λ (m : ℕ). flag (f m)) (sym (add-zero k))
 bit-at f (suc n) k (suc j) h =
     let e : suc j ≡ 1 + j = omega arith in
     ap (λ (p : ℕ). bits f (suc n) k / 2 ^ p % 2) e
     ∙ ap (λ (m : ℕ). m % 2) (sym (shr-shr (bits f (suc n) k) 1 j) ∙ ap (λ (m : ℕ). m / 2 ^ j) (half (bits f n (suc k)) (f k) .0))
     ∙ bit-at f n (suc k) j (omega arith)
-    ∙ ap (λ (m : ℕ). bit (f m)) (omega arith)
-
-bit-told : (b : Bool) → eqb (bit b) 1 ≡ b
-unfolding pick
-bit-told true = refl
-bit-told false = refl
+    ∙ ap (λ (m : ℕ). flag (f m)) (omega arith)
 
 -- ---- a set by its bits: each register's but D's
 abbrev member : List ℕ → ℕ → Bool
 member list r = not (eqb r D) && among r list
 
-times : (b : Bool) (n : ℕ) → pick b n 0 ≡ n * bit b
+times : (b : Bool) (n : ℕ) → pick b n 0 ≡ n * flag b
 unfolding pick
 times true n = omega arith
 times false n = omega arith
@@ -100,15 +93,11 @@ set-bits list =
     )
 
 -- ---- naming one register more
-or-more : (a b c : Bool) → (a || (b || c)) ≡ (a || b || c)
-or-more true b c = refl
-or-more false b c = refl
-
 any-more : (f : ℕ → Bool) (rs : List ℕ) (i : ℕ) → i < length rs → anyOf f (take (suc i) rs) ≡ (anyOf f (take i rs) || f (getD rs i 0))
 any-more f [] i h = absurd (omega arith)
 any-more f (r ∷ rs) zero h = or-false (f r)
 any-more f (r ∷ rs) (suc i) h =
-    ap (λ (b : Bool). f r || b) (any-more f rs i (omega arith)) ∙ or-more (f r) (anyOf f (take i rs)) (f (getD rs i 0))
+    ap (λ (b : Bool). f r || b) (any-more f rs i (omega arith)) ∙ sym (or-assoc (f r) (anyOf f (take i rs)) (f (getD rs i 0)))
 
 member-more :
     (rs : List ℕ) (i q : ℕ) →
@@ -143,8 +132,8 @@ in-set : (list : List ℕ) (r : ℕ) → T (hasBit r) → eqb (setOf list / 2 ^ 
 in-set list r t =
     let h : r < 10 = ltb→lt r 10 (both-left (ltb r 10) (not (eqb r D)) t) in
     ap (λ (n : ℕ). eqb (n / 2 ^ r % 2) 1) (set-bits list)
-    ∙ ap (λ (n : ℕ). eqb n 1) (bit-at (member list) 10 0 r h ∙ ap (λ (q : ℕ). bit (member list q)) (zero-add r))
-    ∙ bit-told (member list r)
+    ∙ ap (λ (n : ℕ). eqb n 1) (bit-at (member list) 10 0 r h ∙ ap (λ (q : ℕ). flag (member list q)) (zero-add r))
+    ∙ flag-told (member list r)
     ∙ plain (not (eqb r D)) (both-right (ltb r 10) (not (eqb r D)) t)
   where
     plain : (b : Bool) → T b → (b && among r list) ≡ among r list

@@ -18,7 +18,7 @@ use Rattle.postbytes.specs.declared.Pair.the-variants as pair
 use Rattle.postbytes.specs.Reading.{extraOf, fillOf, flag, refusalOfShape, valuesOfShape, refusalOfAddressing, valuesOfAddressing, isDefined}
 use Rattle.postbytes.specs.ListsRead.{refusalOfPair, valuesOfPair}
 
-flag-told : (b : Bool) → eqb (flag b) 1 ≡ b
+pub flag-told : (b : Bool) → eqb (flag b) 1 ≡ b
 flag-told true = refl
 flag-told false = refl
 
