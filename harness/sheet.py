@@ -64,8 +64,8 @@ def postbytes():
 
 
 def matching(pattern):
-    """The postbytes of a pattern. 01 reads the bits xx as zeros."""
-    return [b for b in range(256) if all(p in "Rn" or str(b >> (7 - i) & 1) == ("0" if p == "x" else p) for i, p in enumerate(pattern))]
+    """The postbytes of a pattern: R, n and x stand for either bit."""
+    return [b for b in range(256) if all(p in "Rnx" or str(b >> (7 - i) & 1) == p for i, p in enumerate(pattern))]
 
 
 def operand(kind, form, byte, pattern):

@@ -10,7 +10,7 @@
   lists      the same the other way, every set of registers:      OWN COUNT REGISTERS BYTE
              with D in place of A and B too; and none and the own pointer, which have no byte
   capstone   what Debian's capstone 4.0.2 (`cstool m6809`) says:  BYTES LENGTH OPERATION FAULT
-             FAULT is - where it is right, p where it reads a PC postbyte with register bits, x where it reads a transfer of unequal sizes
+             FAULT is - where it is right, x where it reads a transfer of unequal sizes
 
 All numbers but lengths and counts are hexadecimal, those of docs/ROWS.md; - stands for undefined. All but the last come from docs/SHEET.md alone.
 Beside each stands a damaged one (damaged.py). Needs Debian's capstone-tool.
@@ -97,13 +97,9 @@ def cstool(bytes_):
 
 
 def fault(bytes_):
-    """Where capstone is known to read what the sheet, or document 01, does not."""
-    rows = sheet.opcodes()
-    prefixed = bytes_[0] in (0x10, 0x11)
-    operation, form = rows.get((bytes_[0], bytes_[1]) if prefixed else (0, bytes_[0]), (None, None))
-    after = bytes_[2 if prefixed else 1]
-    if form == sheet.FORMS["indexed"] and after & 0x8E == 0x8C and after & 0x60:
-        return "p"
+    """Where capstone is known to read what the sheet does not."""
+    code, after = bytes_[:2]
+    operation, _ = sheet.opcodes().get((0, code), (None, None))
     if operation in (sheet.OPERATIONS["EXG"], sheet.OPERATIONS["TFR"]) and (after >> 7) != (after >> 3 & 1):
         return "x"
     return "-"

@@ -16,7 +16,7 @@ use Rattle.rows.specs.Sizes.{isWide, isLong, numberAt}
 use Rattle.postbytes.specs.declared.Addressing.{Addressing}
 use Rattle.postbytes.specs.declared.Addressing.the-variants as addressing
 use Rattle.postbytes.specs.Registers.{A, X, Y, U, S, DP}
-use Rattle.postbytes.specs.Reading.{directOnly, counterOnly, addressOnly, highOf, shapeOf, valuesOfAddressing}
+use Rattle.postbytes.specs.Reading.{directOnly, addressOnly, highOf, shapeOf, valuesOfAddressing}
 use Rattle.postbytes.specs.Lists.{otherOf, sizeOf}
 use Rattle.postbytes.specs.ListsRead.{registersOf, pairOf}
 use Rattle.decoder.specs.declared.Origin.{Origin}
@@ -52,6 +52,11 @@ asked =
     ∷ front (0xA6 ∷ 0x00 ∷ []) 0
     ∷ front (0xA6 ∷ 0x8C ∷ 0x7F ∷ []) 0x0100 ∷ front (0xA6 ∷ 0x8D ∷ 0x00 ∷ 0x7F ∷ []) 0x0100
     ∷ front (0x96 ∷ 0xFF ∷ []) 0 ∷ front (0xB6 ∷ 0x00 ∷ 0xFF ∷ []) 0
+    -- its PC forms with the open bits set: of one byte and of two, then indirect and backwards
+    ∷ front (0xA6 ∷ 0xAC ∷ 0x7F ∷ []) 0x0100 ∷ front (0xA6 ∷ 0xCC ∷ 0x7F ∷ []) 0x0100 ∷ front (0xA6 ∷ 0xEC ∷ 0x7F ∷ []) 0x0100
+    ∷ front (0xA6 ∷ 0xAD ∷ 0x00 ∷ 0x7F ∷ []) 0x0100 ∷ front (0xA6 ∷ 0xCD ∷ 0x00 ∷ 0x7F ∷ []) 0x0100 ∷ front (0xA6 ∷ 0xED ∷ 0x00 ∷ 0x7F ∷ []) 0x0100
+    ∷ front (0xA6 ∷ 0xBC ∷ 0x80 ∷ []) 0x0100 ∷ front (0xA6 ∷ 0xDC ∷ 0x80 ∷ []) 0x0100 ∷ front (0xA6 ∷ 0xFC ∷ 0x80 ∷ []) 0x0100
+    ∷ front (0xA6 ∷ 0xBD ∷ 0xFF ∷ 0x00 ∷ []) 0x0100 ∷ front (0xA6 ∷ 0xDD ∷ 0xFF ∷ 0x00 ∷ []) 0x0100 ∷ front (0xA6 ∷ 0xFD ∷ 0xFF ∷ 0x00 ∷ []) 0x0100
     -- BRA at 0100 to 0181, 0182, 0082, 0081; at the end of memory to itself, and around
     ∷ front (0x20 ∷ 0x7F ∷ []) 0x0100 ∷ front (0x16 ∷ 0x00 ∷ 0x7F ∷ []) 0x0100
     ∷ front (0x20 ∷ 0x80 ∷ []) 0x0100 ∷ front (0x16 ∷ 0xFF ∷ 0x7E ∷ []) 0x0100
@@ -61,11 +66,13 @@ asked =
     ∷ front (0x10 ∷ 0xAE ∷ 0x9F ∷ 0x12 ∷ 0x34 ∷ []) 0 ∷ front (0xA6 ∷ 0x86 ∷ []) 0 ∷ front (0xA6 ∷ 0xA3 ∷ []) 0
     -- PSHS of all, PSHU S, TFR A,DP
     ∷ front (0x34 ∷ 0xFF ∷ []) 0 ∷ front (0x36 ∷ 0x40 ∷ []) 0 ∷ front (0x1F ∷ 0x8B ∷ []) 0
-    -- undefined: a code, a second prefix, a postbyte, a PC form with register bits, registers of two sizes
+    -- undefined: a code, a second prefix, a postbyte, extended indirect with register bits, registers of two sizes
     ∷ front (0x01 ∷ []) 0 ∷ front (0x10 ∷ 0x10 ∷ []) 0 ∷ front (0x11 ∷ 0x10 ∷ []) 0 ∷ front (0xA6 ∷ 0x87 ∷ []) 0
-    ∷ front (0xA6 ∷ 0xAC ∷ []) 0 ∷ front (0x1E ∷ 0x18 ∷ []) 0
-    -- cut short: no bytes, a lone prefix, a code, a postbyte; past the end of a run
+    ∷ front (0xA6 ∷ 0xBF ∷ 0x12 ∷ 0x34 ∷ []) 0 ∷ front (0xA6 ∷ 0xDF ∷ 0x12 ∷ 0x34 ∷ []) 0 ∷ front (0xA6 ∷ 0xFF ∷ 0x12 ∷ 0x34 ∷ []) 0
+    ∷ front (0x1E ∷ 0x18 ∷ []) 0
+    -- cut short: no bytes, a lone prefix, a code, a postbyte, one with open bits; past the end of a run
     ∷ front [] 0 ∷ front (0x10 ∷ []) 0 ∷ front (0x11 ∷ []) 0 ∷ front (0xA6 ∷ []) 0 ∷ front (0xA6 ∷ 0x89 ∷ 0x00 ∷ []) 0
+    ∷ front (0xA6 ∷ 0xAC ∷ []) 0 ∷ front (0xA6 ∷ 0xFD ∷ 0x00 ∷ []) 0
     ∷ next (0x12 ∷ []) 0 1
     -- beyond 65535, before all else; up to it; a run of nothing; a refused one is the last
     ∷ front (0x12 ∷ 0x12 ∷ []) 0xFFFF ∷ front (0x01 ∷ 0x12 ∷ []) 0xFFFF ∷ front (0x12 ∷ []) 0xFFFF
@@ -84,6 +91,10 @@ answered =
     ∷ only (answer 2 54 (Offset X false 0))
     ∷ only (answer 3 54 (Counter false 0x0182)) ∷ only (answer 4 54 (Counter false 0x0183))
     ∷ only (answer 2 54 (Memory 0xFF)) ∷ only (answer 3 54 (Memory 0xFF))
+    ∷ only (answer 3 54 (Counter false 0x0182)) ∷ only (answer 3 54 (Counter false 0x0182)) ∷ only (answer 3 54 (Counter false 0x0182))
+    ∷ only (answer 4 54 (Counter false 0x0183)) ∷ only (answer 4 54 (Counter false 0x0183)) ∷ only (answer 4 54 (Counter false 0x0183))
+    ∷ only (answer 3 54 (Counter true 0x0083)) ∷ only (answer 3 54 (Counter true 0x0083)) ∷ only (answer 3 54 (Counter true 0x0083))
+    ∷ only (answer 4 54 (Counter true 0x0004)) ∷ only (answer 4 54 (Counter true 0x0004)) ∷ only (answer 4 54 (Counter true 0x0004))
     ∷ only (answer 2 80 (Branch 0x0181)) ∷ only (answer 3 96 (Branch 0x0182))
     ∷ only (answer 2 80 (Branch 0x0082)) ∷ only (answer 3 96 (Branch 0x0081))
     ∷ only (answer 2 80 (Branch 0xFFFE)) ∷ only (answer 2 80 (Branch 0))
@@ -91,15 +102,17 @@ answered =
     ∷ only (answer 5 116 (Address 0x1234)) ∷ only (answer 2 54 (Accumulator X false A)) ∷ only (answer 2 54 (Step Y false 4))
     ∷ only (answer 2 138 (Push 0x3BB)) ∷ only (answer 2 140 (Push 0x40)) ∷ only (answer 2 137 (Pair A DP))
     ∷ only (refuse undefined) ∷ only (refuse undefined) ∷ only (refuse undefined) ∷ only (refuse undefined)
-    ∷ only (refuse undefined) ∷ only (refuse undefined)
+    ∷ only (refuse undefined) ∷ only (refuse undefined) ∷ only (refuse undefined)
+    ∷ only (refuse undefined)
     ∷ only (refuse cutShort) ∷ only (refuse cutShort) ∷ only (refuse cutShort) ∷ only (refuse cutShort) ∷ only (refuse cutShort)
+    ∷ only (refuse cutShort) ∷ only (refuse cutShort)
     ∷ only (refuse cutShort)
     ∷ only (refuse beyond) ∷ only (refuse beyond) ∷ only (answer 1 124 Inherent)
     ∷ only (refuse beyond) ∷ [] ∷ (answer 1 124 Inherent ∷ refuse undefined ∷ [])
     ∷ []
 
 pub cases : map ask asked ≡ answered
-unfolding decodeOf runOf nextOf runFrom frontOf codedOf joined operandOf indexedAt indexedAs registersAt numberedAt numberedOf numberOf distanceOf ownOf shifted outside targetOf directOf rowOf tableOf page0 page10 page11 isWide isLong numberAt shapeOf highOf directOnly counterOnly addressOnly registersOf pairOf otherOf sizeOf extended pick
+unfolding decodeOf runOf nextOf runFrom frontOf codedOf joined operandOf indexedAt indexedAs registersAt numberedAt numberedOf numberOf distanceOf ownOf shifted outside targetOf directOf rowOf tableOf page0 page10 page11 isWide isLong numberAt shapeOf highOf directOnly addressOnly registersOf pairOf otherOf sizeOf extended pick
 cases = refl
 
 -- ---- a kind from its number and values

@@ -8,7 +8,7 @@ use Rattle.values.specs.Widths.{extended}
 use Rattle.rows.specs.Sheet.{page0, page10, page11, tableOf}
 use Rattle.rows.specs.Lookup.{rowOf}
 use Rattle.rows.specs.Sizes.{isWide, isLong, numberAt}
-use Rattle.postbytes.specs.Reading.{directOnly, counterOnly, addressOnly, highOf, shapeOf}
+use Rattle.postbytes.specs.Reading.{directOnly, addressOnly, highOf, shapeOf}
 use Rattle.postbytes.specs.Lists.{otherOf, sizeOf as registerSize}
 use Rattle.postbytes.specs.ListsRead.{registersOf, pairOf}
 use Rattle.records.specs.Hex.{hexOf}
@@ -69,5 +69,5 @@ answered =
     ∷ []
 
 pub cases : map listingOf asked ≡ answered
-unfolding listingOf linesOf refusalOf runsIn lineOf placeOf decimal lastLine recordsIn lineIn recordOf sound endsLine afterEnd behind countOf addressOf typeOf dataOf digitPair digitOf line body checkOf hexOf runOf runFrom frontOf codedOf joined operandOf indexedAt indexedAs registersAt numberedAt numberedOf numberOf distanceOf ownOf shifted outside targetOf directOf rowOf tableOf page0 page10 page11 isWide isLong numberAt shapeOf highOf directOnly counterOnly addressOnly registersOf pairOf otherOf registerSize extended pick
+unfolding listingOf linesOf refusalOf runsIn lineOf placeOf decimal lastLine recordsIn lineIn recordOf sound endsLine afterEnd behind countOf addressOf typeOf dataOf digitPair digitOf line body checkOf hexOf runOf runFrom frontOf codedOf joined operandOf indexedAt indexedAs registersAt numberedAt numberedOf numberOf distanceOf ownOf shifted outside targetOf directOf rowOf tableOf page0 page10 page11 isWide isLong numberAt shapeOf highOf directOnly addressOnly registersOf pairOf otherOf registerSize extended pick
 cases = refl

@@ -7,6 +7,7 @@ pub mod Sets
 pub mod ListsRound
 pub mod Counts
 pub mod Told
+pub mod OpenBits
 pub mod Cases
 pub mod Only
 pub mod Bytes

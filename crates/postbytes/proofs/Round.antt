@@ -24,7 +24,7 @@ use Rattle.postbytes.specs.declared.Addressing.{Addressing}
 use Rattle.postbytes.specs.declared.Addressing.the-variants.{Offset, Counter, Accumulator, Step, Address}
 use Rattle.postbytes.specs.Registers.{X, unknownRegister, unknownStep, notIndexing, notAccumulator}
 use Rattle.postbytes.specs.Writing.{refuse, alone, withByte, withWord, written, registerBits, marked, sizedOf, fiveBits, constantOf, offsetOf, counterOf, accumulatorBase, accumulatorOf, stepOf, encodeOf, nearOf, relativeOf}
-use Rattle.postbytes.specs.Reading.{directOnly, counterOnly, addressOnly, highOf, shapeOf, extraOf, fillOf, isDefined}
+use Rattle.postbytes.specs.Reading.{directOnly, addressOnly, highOf, shapeOf, extraOf, fillOf, isDefined}
 use Rattle.postbytes.specs.Meanings.{meaningOf, Means}
 use Rattle.ground.proofs.Tests.{neither-left, neither-right}
 use Rattle.postbytes.proofs.Tests.{indexing, known-step}
@@ -177,7 +177,7 @@ back-offset r ind v =
 
 -- the PC forms have no register bits
 counter-shape : (ind : Bool) → Has (marked ind 0x8C) 1 (shape.CounterByte ind) × Has (marked ind 0x8D) 2 (shape.CounterWord ind)
-unfolding highOf counterOnly pick
+unfolding highOf pick
 counter-shape ind = (
   record { shape = read-high X 12 ind refl (omega arith); defined = refl; extra = refl },
   record { shape = read-high X 13 ind refl (omega arith); defined = refl; extra = refl },

@@ -113,6 +113,19 @@ filled-refused (CounterWord ind) b c = refl
 filled-refused Address b c = refl
 filled-refused Undefined b c = refl
 
+-- the bytes after a postbyte do not change its kind
+pub filled-kind : (s : Shape) (b c : ℕ) → getD (valuesOfAddressing (fillOf s b c)) 0 0 ≡ getD (valuesOfShape s) 0 0
+filled-kind (NoOffset r ind) b c = refl
+filled-kind (FiveBits r n) b c = refl
+filled-kind (OneByte r ind) b c = refl
+filled-kind (TwoBytes r ind) b c = refl
+filled-kind (Accumulator r ind a) b c = refl
+filled-kind (Step r ind k) b c = refl
+filled-kind (CounterByte ind) b c = refl
+filled-kind (CounterWord ind) b c = refl
+filled-kind Address b c = refl
+filled-kind Undefined b c = refl
+
 -- ---- a transfer byte
 abbrev pairFrom : ℕ → List ℕ → Pair
 pairFrom refusal values = pick (eqb refusal 0) (pair.Is (getD values 0 0) (getD values 1 0)) pair.Undefined

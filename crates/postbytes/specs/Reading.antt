@@ -17,10 +17,6 @@ use Rattle.postbytes.specs.Registers.{A, B, D, X}
 unfoldable pub directOnly : Bool → Shape → Shape
 directOnly ind s = pick ind Undefined s
 
--- the two bits xx that the sheet leaves open: 01 reads "PC forms as 8C, 8D, 9C, 9D only"
-unfoldable pub counterOnly : ℕ → Shape → Shape
-counterOnly xx s = pick (eqb xx 0) s Undefined
-
 -- `10011111`, and no other
 unfoldable pub addressOnly : ℕ → Bool → Shape
 addressOnly rr ind = pick (eqb rr 0 && ind) Address Undefined
@@ -41,9 +37,9 @@ highOf rr ind four =
     (pick (eqb four 0x1) (Step (X + rr) ind 2)
     (pick (eqb four 0x2) (directOnly ind (Step (X + rr) ind 3))
     (pick (eqb four 0x3) (Step (X + rr) ind 4)
-    -- 1xxi1100, 1xxi1101: a constant offset from PC, of 8 or 16 bits
-    (pick (eqb four 0xC) (counterOnly rr (CounterByte ind))
-    (pick (eqb four 0xD) (counterOnly rr (CounterWord ind))
+    -- 1xxi1100, 1xxi1101: a constant offset from PC, of 8 or 16 bits; xx is "don't care", and 02 reads "all four register settings .. as the same PC form"
+    (pick (eqb four 0xC) (CounterByte ind)
+    (pick (eqb four 0xD) (CounterWord ind)
     -- 10011111: extended indirect
     (pick (eqb four 0xF) (addressOnly rr ind)
     Undefined))))))))))))

@@ -9,7 +9,7 @@ ghost use mathlib.Core.Path.{_≡_};
 ghost use Prim.Native.Nat.{_%_, _<_};
 ghost use Rattle.ground.specs.Words.{word};
 ghost use Rattle.values.specs.Widths.{extended};
-ghost use Rattle.postbytes.specs.Reading.{directOnly, counterOnly, addressOnly, highOf, shapeOf, extraOf, fillOf};
+ghost use Rattle.postbytes.specs.Reading.{directOnly, addressOnly, highOf, shapeOf, extraOf, fillOf};
 
 // The low five bits of a postbyte, sign-extended.
 fn five(postbyte: u8) -> u16
@@ -66,13 +66,6 @@ fn single_step(register: u8, indirect: bool, step: u8) -> Shape
     }
 }
 
-// A PC form, where its two open bits are clear.
-fn counter_only(bits: u8, shape: Shape) -> Shape
-    ensures { λ r. ⌜ r ≡ counterOnly bits shape ⌝ }
-{
-    if bits == 0 { shape } else { Shape::Undefined }
-}
-
 // Extended indirect is one postbyte only.
 fn address_only(bits: u8, indirect: bool) -> Shape
     ensures { λ r. ⌜ r ≡ addressOnly bits indirect ⌝ }
@@ -102,8 +95,9 @@ fn high(bits: u8, indirect: bool, low: u8) -> Shape
         0x1 => step(register, indirect, 2),
         0x2 => single_step(register, indirect, 3),
         0x3 => step(register, indirect, 4),
-        0xC => counter_only(bits, Shape::CounterByte { indirect }),
-        0xD => counter_only(bits, Shape::CounterWord { indirect }),
+        // a PC form's register bits are "don't care"
+        0xC => Shape::CounterByte { indirect },
+        0xD => Shape::CounterWord { indirect },
         0xF => address_only(bits, indirect),
         _ => Shape::Undefined,
     }

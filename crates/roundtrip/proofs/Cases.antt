@@ -11,7 +11,7 @@ use Rattle.rows.specs.Sheet.{page0, page10, page11, tableOf}
 use Rattle.rows.specs.Lookup.{mergedOf, placed, hasFormOf, knownOf, codeOf, rowOf}
 use Rattle.rows.specs.Sizes.{isWide, isLong, numberAt, numberSizeOf}
 use Rattle.postbytes.specs.Lists.{anyUnknown, strangeList}
-use Rattle.postbytes.specs.Reading.{directOnly, counterOnly, addressOnly, highOf, shapeOf}
+use Rattle.postbytes.specs.Reading.{directOnly, addressOnly, highOf, shapeOf}
 use Rattle.postbytes.specs.Writing.{marked, constantOf, offsetOf}
 use Rattle.instruction.specs.Records.{stepped, recognised, narrower, agreeing, lawful, sound}
 use Rattle.instruction.specs.Forms.{registerForm, formOf, strays, lacks, needsValue}
@@ -102,5 +102,5 @@ answered =
     ∷ []
 
 pub cases : map ask asked ≡ answered
-unfolding pick bitsOf extended validOf signExtendedOf tableOf page0 page10 page11 mergedOf placed hasFormOf knownOf codeOf rowOf isWide isLong numberAt numberSizeOf anyUnknown strangeList directOnly counterOnly addressOnly highOf shapeOf marked constantOf offsetOf stepped recognised narrower agreeing lawful sound registerForm formOf strays lacks needsValue inherentOf accumulatorIndex offsetValue offsetIndex indexOf chooseOf numberBytes operandBytes codeSize behindCode laidAt laidOf instructionOf madeAs makeOf earlyOf dirtiesOf acceptedOf finishedOf buildOf handed freshFrom freshOf offsetIn offsetKind indexKind kindOf operationOf meaningOf byteIn isFlag flagIn flaggedIn registersIn fieldsIn toldIn valueIn valuesIn allFlagged entryOf entryAt rowsIn entriesFrom entriesOf builtAt refusalAt layFrom layOf meaningsFrom hexOf checkOf body line digitOf pairOf behind countOf lines.addressOf lines.sound typeOf dataOf endsLine afterEnd recordOf lineIn recordsIn runsIn shifted outside joined numberOf numberedOf numberedAt indexedAs indexedAt operandOf codedOf frontOf runFrom runOf sameParts sameMeaning same textAgainst compareOf
+unfolding pick bitsOf extended validOf signExtendedOf tableOf page0 page10 page11 mergedOf placed hasFormOf knownOf codeOf rowOf isWide isLong numberAt numberSizeOf anyUnknown strangeList directOnly addressOnly highOf shapeOf marked constantOf offsetOf stepped recognised narrower agreeing lawful sound registerForm formOf strays lacks needsValue inherentOf accumulatorIndex offsetValue offsetIndex indexOf chooseOf numberBytes operandBytes codeSize behindCode laidAt laidOf instructionOf madeAs makeOf earlyOf dirtiesOf acceptedOf finishedOf buildOf handed freshFrom freshOf offsetIn offsetKind indexKind kindOf operationOf meaningOf byteIn isFlag flagIn flaggedIn registersIn fieldsIn toldIn valueIn valuesIn allFlagged entryOf entryAt rowsIn entriesFrom entriesOf builtAt refusalAt layFrom layOf meaningsFrom hexOf checkOf body line digitOf pairOf behind countOf lines.addressOf lines.sound typeOf dataOf endsLine afterEnd recordOf lineIn recordsIn runsIn shifted outside joined numberOf numberedOf numberedAt indexedAs indexedAt operandOf codedOf frontOf runFrom runOf sameParts sameMeaning same textAgainst compareOf
 cases = refl

@@ -31,12 +31,6 @@ single-step-requires-2 c κs = search needs
 step-requires-2 : tie.Need-step-requires-2
 step-requires-2 c κs = search needs
 
-counter-only-requires : tie.Need-counter-only-requires
-counter-only-requires c κs = search needs
-
-counter-only-requires-2 : tie.Need-counter-only-requires-2
-counter-only-requires-2 c κs = search needs
-
 address-only-requires : tie.Need-address-only-requires
 address-only-requires c κs = search needs
 
@@ -82,11 +76,11 @@ returns-10 c = simp (c .before .match .keys10) (c .step2 .ensures)
 
 returns-11 : tie.Need-returns-11
 unfolding highOf pick
-returns-11 c = simp (c .before .match .keys11) (c .counter-only .ensures)
+returns-11 c = simp (c .match .keys11)
 
 returns-12 : tie.Need-returns-12
 unfolding highOf pick
-returns-12 c = simp (c .before .match .keys12) (c .counter-only2 .ensures)
+returns-12 c = simp (c .match .keys12)
 
 returns-13 : tie.Need-returns-13
 unfolding highOf pick
@@ -123,8 +117,6 @@ high-spec =
     step-requires
     single-step-requires-2
     step-requires-2
-    counter-only-requires
-    counter-only-requires-2
     address-only-requires
     returns
     returns-2
