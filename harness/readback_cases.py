@@ -52,6 +52,25 @@ def refused(number, *before):
 
 CODE = (0x0100, "A6 84 | 39")
 TWO = ((0x0200, "86 05 | 8D 01 | 12"), (0x0100, "10 8E 12 34 | 39"))
+# an old cartridge, as another assembler would write it: the bits that the sheet leaves open in a PC postbyte are those of the register before the operand,
+# X 00, Y 20, U 40, S 60, so that all sixteen PC postbytes stand in it
+OLD_CARTRIDGE = (
+    # ORCC #$50, STX OLDX,PCR, STY OLDY,PCR, STU OLDU,PCR, STS OLDS,PCR
+    # LDX [RACK1,PCR], LDY [RACK2,PCR], LDU [RACK3,PCR], LDS [STACK,PCR], JSR COUNT,PCR
+    # LEAX NEW1,PCR, LEAY NEW2,PCR, LEAU NEW3,PCR, LEAS NEW,PCR
+    # STX [KEPT1,PCR], STY [KEPT2,PCR], STU [KEPT3,PCR], STS [KEPT,PCR]
+    # LDX OLDX,PCR, LDY OLDY,PCR, LDU OLDU,PCR, LDS OLDS,PCR, ANDCC #$AF, RTS
+    (
+        0xC000,
+        "1A 50|AF 8C 6B|10 AF AC 69|EF CC 68|10 EF EC 66"
+        "|AE 9C 65|10 AE BC 63|EE DC 62|10 EE FC 60|AD 8D 01 DE"
+        "|30 8D 43 DA|31 AD 43 DE|33 CD 43 E2|32 ED 43 E6"
+        "|AF 9D 1F CA|10 AF BD 1F C7|EF DD 1F C5|10 EF FD 1F C2"
+        "|AE 8C 29|10 AE AC 27|EE CC 26|10 EE EC 24|1C AF|39",
+    ),
+    # COUNT DEC ,X, DEC ,Y, DEC ,U, RTS
+    (0xC200, "6A 84|6A A4|6A C4|39"),
+)
 FILLER = "".join(line(0, 0x0100 + 255 * k, b"\x01" * 255) for k in range(125)) + line(0, 0x0100 + 255 * 125, b"\x01" * 131) + END
 NOPS = [(0x0100 + 255 * k, b"\x12" * 255) for k in range(125)] + [(0x0100 + 255 * 125, b"\x12" * 131)]
 
@@ -78,13 +97,18 @@ CASES = [
         records((0x8000, "0F 20|6F E9 01 00|7F C0 00|4F|5F|1A 50|34 FF|1F 8B|30 8C F0|A6 9F FF FE|20 FE|10 27 00 10|CC 12 34|10 DF 40|10 3F|11 83 00 01|3B")),
         listed((0x8000, "0F 20|6F E9 01 00|7F C0 00|4F|5F|1A 50|34 FF|1F 8B|30 8C F0|A6 9F FF FE|20 FE|10 27 00 10|CC 12 34|10 DF 40|10 3F|11 83 00 01|3B")),
     ),
-    # 14: an undefined code, a second prefix, a postbyte, registers of two sizes; what stands before it is printed, what follows is not
+    # the open bits of a PC postbyte
+    ("old_cartridge", records(*OLD_CARTRIDGE, width=16), listed(*OLD_CARTRIDGE)),
+    # 14: an undefined code, a second prefix, a postbyte, extended indirect with register bits, registers of two sizes; what stands before it is printed,
+    # what follows is not
     ("undefined_code", records((0x0100, "12 01 12"), (0x0200, "39")), refused(14, (0x0100, "12"))),
     ("second_prefix", records((0x0100, "10 10 8E 12 34")), refused(14)),
     ("undefined_postbyte", records((0x0100, "A6 84 A6 87")), refused(14, (0x0100, "A6 84"))),
+    ("extended_indirect_on_y", records((0x0100, "A6 9F 12 34 A6 BF 12 34")), refused(14, (0x0100, "A6 9F 12 34"))),
     ("unequal_registers", records((0x0200, "39"), (0x0100, "1F 18")), refused(14, (0x0200, "39"))),
     # 15: a run ends inside an instruction, though the next run begins with its byte
     ("cut_short", records((0x0100, "12 B6 C0"), (0x0200, "00 39")), refused(15, (0x0100, "12"))),
+    ("cut_in_a_pc_offset", records((0x0100, "A6 AC 7F A6 BD 00")), refused(15, (0x0100, "A6 AC 7F"))),
     ("lone_prefix", records((0x0100, "39 11")), refused(15, (0x0100, "39"))),
     # 16, alone: no text, a wrong check, no end record, something after it, a blank line, a lone CR; and before 18
     ("nothing", "", refused(16)),
@@ -115,6 +139,8 @@ TIP_COUNTER = (
     (0xF100, "7C 01 01|3B"),
 )
 
+EXAMPLES = {"tip_counter.hex": TIP_COUNTER, "old_cartridge.hex": OLD_CARTRIDGE}
+
 
 def write(path, text):
     os.makedirs(os.path.dirname(path), exist_ok=True)
@@ -129,7 +155,8 @@ def write_all():
     _, text, lines = CASES[0]
     write(os.path.join(ROOT, "crates", "readback", "stdin"), text)
     write(os.path.join(ROOT, "crates", "readback", "stdout"), lines)
-    write(os.path.join(ROOT, "examples", "tip_counter.hex"), records(*TIP_COUNTER, width=16))
+    for name, image in EXAMPLES.items():
+        write(os.path.join(ROOT, "examples", name), records(*image, width=16))
 
 
 def status(lines):
@@ -139,10 +166,10 @@ def status(lines):
 
 
 def run_all():
-    image = os.path.join(ROOT, "examples", "tip_counter.hex")
     _, example, printed = CASES[0]
     cases = [(name, [READBACK], text, lines) for name, text, lines in CASES + [("largest", *LARGEST)]]
-    cases += [("a file", [READBACK, image], "", listed(*TIP_COUNTER)), ("a dash for it", [READBACK, "-"], example, printed)]
+    cases += [(name, [READBACK, os.path.join(ROOT, "examples", name)], "", listed(*image)) for name, image in EXAMPLES.items()]
+    cases += [("a dash for a file", [READBACK, "-"], example, printed)]
     differing = 0
     with tempfile.TemporaryDirectory() as elsewhere:
         link = os.path.join(elsewhere, "link")

@@ -40,6 +40,7 @@ fn runs() {
     report(b"last_address");
     report(b"around_the_end");
     report(b"shapes");
+    report(b"old_cartridge");
 }
 
 // 14 and 15.
@@ -47,8 +48,10 @@ fn unreadable() {
     report(b"undefined_code");
     report(b"second_prefix");
     report(b"undefined_postbyte");
+    report(b"extended_indirect_on_y");
     report(b"unequal_registers");
     report(b"cut_short");
+    report(b"cut_in_a_pc_offset");
     report(b"lone_prefix");
 }
 
