@@ -213,6 +213,21 @@ static void decoding(void)
     untouched("refused reads", answer, JW_READ_CELLS);
 }
 
+/* The sheet leaves two bits of a PC postbyte open: all four settings are read as the same form. Those of 9F are not open. */
+static void open_bits(void)
+{
+    uint16_t answer[JW_READ_CELLS];
+    for (uint8_t xx = 0; xx < 0x80; xx += 0x20) {
+        const uint8_t near[] = {0xA6, 0x8C | xx, 0x7F}, far[] = {0xA6, 0x9D | xx, 0xFF, 0x00};
+        same("near", jw_decode(near, sizeof near, 0x100, answer, JW_READ_CELLS), JW_ACCEPTED);
+        same_bytes("LDA $182,PCR", answer, (const uint16_t[]){3, JW_LDA, JW_KIND_PC, 0, 0, 0, 0, 0, 0x182}, sizeof answer);
+        same("far", jw_decode(far, sizeof far, 0x100, answer, JW_READ_CELLS), JW_ACCEPTED);
+        same_bytes("LDA [$4,PCR]", answer, (const uint16_t[]){4, JW_LDA, JW_KIND_PC, 1, 0, 0, 0, 0, 0x4}, sizeof answer);
+        const uint8_t address[] = {0xA6, 0x9F | xx, 0x12, 0x34};
+        same("9F alone", jw_decode(address, sizeof address, 0x100, answer, JW_READ_CELLS), xx == 0 ? JW_ACCEPTED : JW_UNDEFINED);
+    }
+}
+
 static void evaluating(void)
 {
     /* 0: the constant -1; 1: label 0; 2: node 0 + node 1 */
@@ -421,6 +436,7 @@ int main(void)
     kept();
     laying();
     decoding();
+    open_bits();
     evaluating();
     segments();
     texts();

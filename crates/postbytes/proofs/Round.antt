@@ -175,7 +175,7 @@ back-offset r ind v =
     by-test P (unknownRegister r || not (validOf v)) (λ _. refused 0 _)
     (λ _. by-test P (notIndexing r) (λ _. refused 3 _) (λ hr. back-constant r ind v hr))
 
--- the PC forms have no register bits
+-- a PC form is written with its two open bits clear
 counter-shape : (ind : Bool) → Has (marked ind 0x8C) 1 (shape.CounterByte ind) × Has (marked ind 0x8D) 2 (shape.CounterWord ind)
 unfolding highOf pick
 counter-shape ind = (

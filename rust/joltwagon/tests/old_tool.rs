@@ -1,5 +1,6 @@
 //! What the old tool does with `obj.rs` and `program.rs`, done with this crate. Expected bytes and texts are document 01's, or follow from its rules.
 use joltwagon::*;
+use std::collections::BTreeSet;
 
 fn operand(mode: Mode, value: Option<NodeId>) -> OperandDescriptor {
     OperandDescriptor { value, ..OperandDescriptor::new(mode) }
@@ -144,6 +145,32 @@ fn text_there_and_back() {
     assert_eq!(read_hex(write_hex(&[all]).unwrap().as_bytes()).unwrap()[0].bytes.len(), 65536);
     let beyond = BinaryObject { addr: 1, data: Some(vec![0; 65536]) };
     assert_eq!(write_hex(&[beyond]).err(), Some(Refused(18)));
+}
+
+/// An image as another assembler writes it: its PC postbytes carry register bits. They are read as if they had none, and built again without.
+#[test]
+fn old_cartridge() {
+    let runs = read_hex(include_bytes!("../../../examples/old_cartridge.hex")).unwrap();
+    assert_eq!(runs.iter().map(|run| run.addr).collect::<Vec<_>>(), [0xC000, 0xC200]);
+    let mut open = BTreeSet::new();
+    let mut at = 0;
+    for decoded in run(&runs[0].bytes, runs[0].addr) {
+        let Decoded { length, operation, kind } = decoded.unwrap();
+        let (addr, bytes) = (runs[0].addr + at as u16, &runs[0].bytes[at..at + length]);
+        at += length;
+        let Kind::Counter { indirect, target } = kind else { continue };
+        let mut labels = ProgramLabels::new();
+        let there = Some(labels.node(Node::Constant(target)));
+        let od = OperandDescriptor { regs: vec![Register::PC], indirect, ..operand(Mode::PCRelative, there) };
+        let mut again = Instruction::try_new(operation, &od, addr, &labels, false, true).unwrap();
+        let again = again.build(addr, &labels, false).unwrap();
+        assert_eq!(again.len(), length);
+        for (&old, &new) in bytes.iter().zip(again).filter(|(old, new)| old != new) {
+            assert_eq!(old & !0x60, new);
+            open.insert(old);
+        }
+    }
+    assert_eq!(open, BTreeSet::from([0xAC, 0xAD, 0xBC, 0xBD, 0xCC, 0xCD, 0xDC, 0xDD, 0xEC, 0xED, 0xFC, 0xFD]));
 }
 
 #[test]
