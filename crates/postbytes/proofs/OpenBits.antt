@@ -8,15 +8,15 @@ use native.Mathlib.Omega.{arith}
 use lib.Dec.{eqb}
 use lib.ListN.{getD, replicate}
 use Rattle.ground.specs.Choice.{pick}
-use Rattle.ground.specs.Words.{plus, minus, low}
+use Rattle.ground.specs.Words.{plus, minus}
 use Rattle.ground.proofs.Choices.{by-pick}
-use Rattle.values.specs.Widths.{validOf, signExtendedOf}
+use Rattle.values.specs.Widths.{validOf}
 use Rattle.postbytes.specs.declared.Encoded.{Encoded}
 use Rattle.postbytes.specs.declared.Index.{Index}
 use Rattle.postbytes.specs.declared.Index.the-variants.{Offset, Counter, Accumulator, Step, Address}
 use Rattle.postbytes.specs.declared.Shape.the-variants.{CounterByte, CounterWord, Undefined}
 use Rattle.postbytes.specs.declared.Addressing.{Addressing}
-use Rattle.postbytes.specs.Writing.{refuse, withByte, withWord, written, marked, sizedOf, counterOf, encodeOf, nearOf, relativeOf}
+use Rattle.postbytes.specs.Writing.{refuse, written, marked, sizedOf, counterOf, encodeOf, nearOf, relativeOf}
 use Rattle.postbytes.specs.Reading.{addressOnly, highOf, shapeOf, valuesOfShape, valuesOfAddressing}
 use Rattle.postbytes.specs.Meanings.{meaningOf}
 use Rattle.postbytes.proofs.Told.{filled-kind}
@@ -56,20 +56,16 @@ other-kind i k z h =
     absurd (true≢false (rw eight at k))
 
 -- 8C, 9C; 8D, 9D
-short-zeros : (ind : Bool) (b : ℕ) → Zeros (withByte (marked ind 0x8C) b)
-unfolding marked
-short-zeros ind b _ _ = by-pick (λ (p : ℕ). p / 32 % 4 ≡ 0) ind refl refl
-
-long-zeros : (ind : Bool) (n : ℕ) → Zeros (withWord (marked ind 0x8D) n)
-unfolding marked
-long-zeros ind n _ _ = by-pick (λ (p : ℕ). p / 32 % 4 ≡ 0) ind refl refl
+clear : (ind : Bool) → (marked ind 0x8C / 32 % 4 ≡ 0) × (marked ind 0x8D / 32 % 4 ≡ 0)
+unfolding marked pick
+clear true = (refl, refl)
+clear false = (refl, refl)
 
 pub zeros-written : (i : Index) → Zeros (encodeOf i)
 unfolding counterOf sizedOf
 zeros-written (Offset r ind v) = other-kind (Offset r ind v) refl
 zeros-written (Counter ind v) =
-    let n = signExtendedOf v .number in
-    by-pick Zeros (not (validOf v)) (refused 0) (by-pick Zeros (eqb (v .width) 8) (short-zeros ind (low n)) (long-zeros ind n))
+    by-pick Zeros (not (validOf v)) (refused 0) (by-pick Zeros (eqb (v .width) 8) (λ _ _. clear ind .0) (λ _ _. clear ind .1))
 zeros-written (Accumulator r ind a) = other-kind (Accumulator r ind a) refl
 zeros-written (Step r ind k) = other-kind (Step r ind k) refl
 zeros-written (Address address) = other-kind (Address address) refl
@@ -77,6 +73,4 @@ zeros-written (Address address) = other-kind (Address address) refl
 pub zeros-relative : (target after : ℕ) (ind : Bool) → Zeros (relativeOf target after ind)
 unfolding relativeOf
 zeros-relative target after ind =
-    let d₁ = minus target (plus after 2) in
-    let d₂ = minus target (plus after 3) in
-    by-pick Zeros (nearOf d₁) (short-zeros ind (low d₁)) (long-zeros ind d₂)
+    by-pick Zeros (nearOf (minus target (plus after 2))) (λ _ _. clear ind .0) (λ _ _. clear ind .1)
