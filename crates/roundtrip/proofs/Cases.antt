@@ -1,4 +1,5 @@
--- Texts of other makers against 01's two instructions, `LDA` 0,X and `RTS` at 0100, under a single statement: equal, and each way to differ.
+-- Texts of other makers against 01's two instructions, `LDA` 0,X and `RTS` at 0100, under a single statement: equal, and each way to differ. And against
+-- `LDA $0182`,PCR there, whose postbyte may carry register bits.
 -- Assumes nothing.
 use mathlib.Core.Path.{_≡_, refl}
 use mathlib.Core.Bool.{true, false}
@@ -12,10 +13,10 @@ use Rattle.rows.specs.Lookup.{mergedOf, placed, hasFormOf, knownOf, codeOf, row
 use Rattle.rows.specs.Sizes.{isWide, isLong, numberAt, numberSizeOf}
 use Rattle.postbytes.specs.Lists.{anyUnknown, strangeList}
 use Rattle.postbytes.specs.Reading.{directOnly, addressOnly, highOf, shapeOf}
-use Rattle.postbytes.specs.Writing.{marked, constantOf, offsetOf}
+use Rattle.postbytes.specs.Writing.{marked, constantOf, offsetOf, relativeOf}
 use Rattle.instruction.specs.Records.{stepped, recognised, narrower, agreeing, lawful, sound}
 use Rattle.instruction.specs.Forms.{registerForm, formOf, strays, lacks, needsValue}
-use Rattle.instruction.specs.Choosing.{inherentOf, accumulatorIndex, offsetValue, offsetIndex, indexOf, chooseOf}
+use Rattle.instruction.specs.Choosing.{inherentOf, accumulatorIndex, offsetValue, offsetIndex, targetIndex, indexOf, chooseOf}
 use Rattle.instruction.specs.Bytes.{numberBytes, operandBytes, codeSize, behindCode, laidAt, laidOf}
 use Rattle.instruction.specs.Building.{instructionOf, madeAs, makeOf, earlyOf, dirtiesOf, acceptedOf, finishedOf, buildOf, handed, freshFrom, freshOf}
 use Rattle.meanings.specs.Means.{offsetIn, offsetKind, indexKind, kindOf, operationOf, meaningOf}
@@ -30,7 +31,7 @@ use Rattle.reader.specs.Lines as lines
 use Rattle.reader.specs.Lines.{countOf, typeOf, dataOf, endsLine, afterEnd, recordOf, lineIn, recordsIn}
 use Rattle.reader.specs.Answers.{runsIn}
 use Rattle.reader.proofs.Cases.{code, end, lf, first}
-use Rattle.decoder.specs.Origin.{shifted, outside}
+use Rattle.decoder.specs.Origin.{shifted, outside, targetOf}
 use Rattle.decoder.specs.Meaning.{joined}
 use Rattle.decoder.specs.Operands.{numberOf, numberedOf, numberedAt, indexedAs, indexedAt, operandOf}
 use Rattle.decoder.specs.Front.{codedOf, frontOf}
@@ -43,6 +44,9 @@ abbrev list : List ℕ
 list =
     54 ∷ 1 ∷ 0 ∷ 0 ∷ 0 ∷ 0 ∷ 1 ∷ 3 ∷ 0 ∷ 0 ∷ 0 ∷ 0 ∷ 0 ∷ 0 ∷ 0 ∷ 0 ∷ 0 ∷ 0 ∷ 0 ∷ 0 ∷ 0
     ∷ 128 ∷ 7 ∷ 0 ∷ 0 ∷ 0 ∷ 0 ∷ 0 ∷ 0 ∷ 0 ∷ 0 ∷ 0 ∷ 0 ∷ 0 ∷ 0 ∷ 0 ∷ 0 ∷ 0 ∷ 0 ∷ 0 ∷ 0 ∷ 0 ∷ []
+
+abbrev counter : List ℕ
+counter = 54 ∷ 2 ∷ 0 ∷ 0 ∷ 0 ∷ 0 ∷ 1 ∷ 7 ∷ 0 ∷ 0 ∷ 0 ∷ 0 ∷ 0 ∷ 0 ∷ 0 ∷ 0 ∷ 1 ∷ 0x0182 ∷ 16 ∷ 0x0182 ∷ 16 ∷ []
 
 -- bytes at an address, and the end record
 abbrev at : ℕ → List ℕ → List ℕ
@@ -69,6 +73,10 @@ asked =
     ∷ compare list 0x0100 (at 0x0100 (0xA6 ∷ 0x84 ∷ 0x39 ∷ 0x39 ∷ []))
     ∷ compare list 0x0100 (at 0x0100 (0xA6 ∷ 0x84 ∷ []))
     ∷ compare list 0x0100 (at 0x0100 (0xA6 ∷ 0x84 ∷ 0x10 ∷ []))
+    -- a PC form as it is written here, with register bits, and indirect
+    ∷ compare counter 0x0100 (at 0x0100 (0xA6 ∷ 0x8C ∷ 0x7F ∷ []))
+    ∷ compare counter 0x0100 (at 0x0100 (0xA6 ∷ 0xAC ∷ 0x7F ∷ []))
+    ∷ compare counter 0x0100 (at 0x0100 (0xA6 ∷ 0xBC ∷ 0x7F ∷ []))
     -- a second run
     ∷ compare list 0x0100 (code ++ lf ++ at 0x0200 (0x39 ∷ []))
     -- no instruction against no run, and against one
@@ -92,6 +100,9 @@ answered =
     ∷ answer false 2
     ∷ answer false 1
     ∷ answer false 1
+    ∷ answer true 1
+    ∷ answer true 1
+    ∷ answer false 0
     ∷ answer false 2
     ∷ answer true 0
     ∷ answer false 0
@@ -102,5 +113,5 @@ answered =
     ∷ []
 
 pub cases : map ask asked ≡ answered
-unfolding pick bitsOf extended validOf signExtendedOf tableOf page0 page10 page11 mergedOf placed hasFormOf knownOf codeOf rowOf isWide isLong numberAt numberSizeOf anyUnknown strangeList directOnly addressOnly highOf shapeOf marked constantOf offsetOf stepped recognised narrower agreeing lawful sound registerForm formOf strays lacks needsValue inherentOf accumulatorIndex offsetValue offsetIndex indexOf chooseOf numberBytes operandBytes codeSize behindCode laidAt laidOf instructionOf madeAs makeOf earlyOf dirtiesOf acceptedOf finishedOf buildOf handed freshFrom freshOf offsetIn offsetKind indexKind kindOf operationOf meaningOf byteIn isFlag flagIn flaggedIn registersIn fieldsIn toldIn valueIn valuesIn allFlagged entryOf entryAt rowsIn entriesFrom entriesOf builtAt refusalAt layFrom layOf meaningsFrom hexOf checkOf body line digitOf pairOf behind countOf lines.addressOf lines.sound typeOf dataOf endsLine afterEnd recordOf lineIn recordsIn runsIn shifted outside joined numberOf numberedOf numberedAt indexedAs indexedAt operandOf codedOf frontOf runFrom runOf sameParts sameMeaning same textAgainst compareOf
+unfolding pick bitsOf extended validOf signExtendedOf tableOf page0 page10 page11 mergedOf placed hasFormOf knownOf codeOf rowOf isWide isLong numberAt numberSizeOf anyUnknown strangeList directOnly addressOnly highOf shapeOf marked constantOf offsetOf relativeOf stepped recognised narrower agreeing lawful sound registerForm formOf strays lacks needsValue inherentOf accumulatorIndex offsetValue offsetIndex targetIndex indexOf chooseOf numberBytes operandBytes codeSize behindCode laidAt laidOf instructionOf madeAs makeOf earlyOf dirtiesOf acceptedOf finishedOf buildOf handed freshFrom freshOf offsetIn offsetKind indexKind kindOf operationOf meaningOf byteIn isFlag flagIn flaggedIn registersIn fieldsIn toldIn valueIn valuesIn allFlagged entryOf entryAt rowsIn entriesFrom entriesOf builtAt refusalAt layFrom layOf meaningsFrom hexOf checkOf body line digitOf pairOf behind countOf lines.addressOf lines.sound typeOf dataOf endsLine afterEnd recordOf lineIn recordsIn runsIn shifted outside targetOf joined numberOf numberedOf numberedAt indexedAs indexedAt operandOf codedOf frontOf runFrom runOf sameParts sameMeaning same textAgainst compareOf
 cases = refl
