@@ -52,8 +52,8 @@ def refused(number, *before):
 
 CODE = (0x0100, "A6 84 | 39")
 TWO = ((0x0200, "86 05 | 8D 01 | 12"), (0x0100, "10 8E 12 34 | 39"))
-# an old cartridge, as another assembler would write it: the bits that the sheet leaves open in a PC postbyte are those of the register before the operand,
-# X 00, Y 20, U 40, S 60, so that all sixteen PC postbytes stand in it
+# an old cartridge, as another assembler would write it: in the bits that the sheet leaves open, a PC postbyte carries the register that the instruction
+# loads or stores, X 00, Y 20, U 40, S 60. All sixteen PC postbytes stand in it
 OLD_CARTRIDGE = (
     # ORCC #$50, STX OLDX,PCR, STY OLDY,PCR, STU OLDU,PCR, STS OLDS,PCR
     # LDX [RACK1,PCR], LDY [RACK2,PCR], LDU [RACK3,PCR], LDS [STACK,PCR], JSR COUNT,PCR
