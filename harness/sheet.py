@@ -1,4 +1,5 @@
 """The numbers of docs/ROWS.md and the facts of docs/SHEET.md, read from those pages. Nothing here knows of this project's code."""
+import functools
 import os
 import re
 
@@ -22,6 +23,7 @@ REGISTERS = numbers("Registers")
 KINDS = numbers("Meaning kinds")
 
 
+@functools.cache
 def opcodes():
     """{(page, code): (operation, form)} of all that the sheet defines."""
     text = page("SHEET.md")
@@ -96,6 +98,12 @@ def seconds():
     sentence = re.search(r"^ASL is also written .*$", page("SHEET.md"), re.M).group(0)
     for name, second, on in re.findall(r"(\w+) (?:is )?also (?:written )?(\w+)( \(on A and B too\))?", sentence):
         yield from ((name + a, second + a) for a in ("", "A", "B")[: 3 if on else 1])
+
+
+def unequal_transfer(data):
+    """Whether the bytes are EXG or TFR of registers of two sizes, which the sheet does not have: the codes of registers of 8 bits have their high bit set."""
+    operation, _ = opcodes().get((0, data[0]), (None, None))
+    return operation in (OPERATIONS["EXG"], OPERATIONS["TFR"]) and len(data) > 1 and data[1] >> 7 != data[1] >> 3 & 1
 
 
 def boxes(own):

@@ -96,15 +96,6 @@ def cstool(bytes_):
     return (0, None) if name == "FCB" else (length, name)
 
 
-def fault(bytes_):
-    """Where capstone is known to read what the sheet does not."""
-    code, after = bytes_[:2]
-    operation, _ = sheet.opcodes().get((0, code), (None, None))
-    if operation in (sheet.OPERATIONS["EXG"], sheet.OPERATIONS["TFR"]) and (after >> 7) != (after >> 3 & 1):
-        return "x"
-    return "-"
-
-
 def sample():
     for prefix in ("", "10", "11"):
         for code in range(256):
@@ -122,7 +113,8 @@ def capstone_lines():
         bytes_ = (bytes_ + bytes(5))[:5]
         length, name = cstool(bytes_)
         operation = "--" if name is None else f"{sheet.OPERATIONS[name]:02X}"
-        yield f"{bytes_.hex().upper()} {length} {operation} {fault(bytes_) if name else '-'}"
+        fault = "x" if name and sheet.unequal_transfer(bytes_) else "-"
+        yield f"{bytes_.hex().upper()} {length} {operation} {fault}"
 
 
 def write(name, lines):
