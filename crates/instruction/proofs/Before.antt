@@ -31,11 +31,11 @@ of-either g true false a b e = e
 of-either g false true a b e = sym e
 of-either g false false a b e = refl
 
-lacks-alike : (o : Operand) → lacks o direct ≡ lacks o extended
+pub lacks-alike : (o : Operand) → lacks o direct ≡ lacks o extended
 unfolding lacks strays
 lacks-alike o = ap (λ (t : Bool). not t || false) (direct-extended (o .operation))
 
-lacks-same : (o : Operand) (v w : Values) (dirty page : Bool) → lacks o (formOf o v dirty) ≡ lacks o (formOf o w page)
+pub lacks-same : (o : Operand) (v w : Values) (dirty page : Bool) → lacks o (formOf o v dirty) ≡ lacks o (formOf o w page)
 unfolding formOf extendedForm
 lacks-same o v w dirty page =
     of-choice (lacks o) (eqb (o .mode) modeRegister) refl

@@ -23,7 +23,7 @@ use Rattle.instruction.specs.declared.Built.{Built}
 use Rattle.instruction.specs.Names.{modeRegister, modeOffset, modePcRelative, modeIncDec, modeExtended, modeDirect, modeImmediate}
 use Rattle.instruction.specs.Records.{stepped, recognised, narrower, agreeing, lawful, sound}
 use Rattle.instruction.specs.Forms.{onPage, becomesDirect, extendedForm, registerForm, formOf, strays, lacks, needsValue}
-use Rattle.instruction.specs.Choosing.{immediateOf, forcedWide, leavesDirect, staysDirect, addressOf, longBranch, branchOf, offsetValue, offsetIndex, targetIndex, stepIndex, indexOf, isPair, ownStack, listedOf, registersOf, chooseOf}
+use Rattle.instruction.specs.Choosing.{immediateOf, forcedWide, leavesDirect, staysDirect, directlyOf, anewAs, anewOf, addressOf, longBranch, branchOf, offsetValue, offsetIndex, targetIndex, stepIndex, indexOf, isPair, ownStack, listedOf, registersOf, chooseOf}
 use Rattle.instruction.specs.Bytes.{numberBytes, operandBytes, codeSize, behindCode, laidAt, laidOf}
 use Rattle.instruction.specs.Building.{instructionOf, madeAs, makeOf, earlyOf, dirtiesOf, acceptedOf, finishedOf, buildOf, handed, freshFrom, freshOf}
 
@@ -184,7 +184,7 @@ answered =
     []
 
 pub cases : map ask asked ≡ answered
-unfolding pick bitsOf extended validOf signExtendedOf tableOf page0 page10 page11 mergedOf placed hasFormOf knownOf codeOf isWide isLong numberAt numberSizeOf longFrom longOf anyUnknown strangeList among marked sizedOf constantOf offsetOf relativeOf stepped recognised narrower agreeing lawful sound onPage becomesDirect extendedForm registerForm formOf strays lacks needsValue addressOf longBranch branchOf offsetValue offsetIndex targetIndex stepIndex indexOf chooseOf numberBytes operandBytes codeSize behindCode laidAt laidOf instructionOf madeAs makeOf earlyOf dirtiesOf acceptedOf finishedOf buildOf handed freshFrom freshOf
+unfolding pick bitsOf extended validOf signExtendedOf tableOf page0 page10 page11 mergedOf placed hasFormOf knownOf codeOf isWide isLong numberAt numberSizeOf longFrom longOf anyUnknown strangeList among marked sizedOf constantOf offsetOf relativeOf stepped recognised narrower agreeing lawful sound onPage becomesDirect extendedForm registerForm formOf strays lacks needsValue directlyOf anewAs anewOf addressOf longBranch branchOf offsetValue offsetIndex targetIndex stepIndex indexOf chooseOf numberBytes operandBytes codeSize behindCode laidAt laidOf instructionOf madeAs makeOf earlyOf dirtiesOf acceptedOf finishedOf buildOf handed freshFrom freshOf
 cases = refl
 
 -- a long branch; a branch that stays long once it was made long, and one that may not be made long
@@ -213,7 +213,7 @@ pub further :
     refused 8 ∷
     bytes (0xB6 ∷ 0x10 ∷ 0x00 ∷ []) ∷
     bytes (0x96 ∷ 0x10 ∷ []) ∷
-    refused 7 ∷
+    bytes (0xB6 ∷ 0x10 ∷ 0x00 ∷ []) ∷
     refused 7 ∷
     refused 6 ∷
     refused 4 ∷
@@ -224,5 +224,5 @@ pub further :
     refused 6 ∷
     bytes (0x8E ∷ 0x00 ∷ 0xFF ∷ []) ∷
     []
-unfolding pick bitsOf validOf tableOf page0 page10 page11 mergedOf placed hasFormOf knownOf codeOf isWide isLong numberAt numberSizeOf longFrom longOf anyUnknown strangeList among sizeOf pushOf pairedOf written.codeOf stepped recognised narrower agreeing lawful sound onPage becomesDirect extendedForm registerForm formOf strays lacks needsValue immediateOf forcedWide leavesDirect staysDirect addressOf longBranch branchOf isPair ownStack listedOf registersOf chooseOf numberBytes operandBytes codeSize behindCode laidAt laidOf instructionOf madeAs makeOf earlyOf dirtiesOf acceptedOf finishedOf buildOf handed freshFrom freshOf
+unfolding pick bitsOf validOf tableOf page0 page10 page11 mergedOf placed hasFormOf knownOf codeOf isWide isLong numberAt numberSizeOf longFrom longOf anyUnknown strangeList among sizeOf pushOf pairedOf written.codeOf stepped recognised narrower agreeing lawful sound onPage becomesDirect extendedForm registerForm formOf strays lacks needsValue immediateOf forcedWide leavesDirect staysDirect directlyOf anewAs anewOf addressOf longBranch branchOf isPair ownStack listedOf registersOf chooseOf numberBytes operandBytes codeSize behindCode laidAt laidOf instructionOf madeAs makeOf earlyOf dirtiesOf acceptedOf finishedOf buildOf handed freshFrom freshOf
 further = refl

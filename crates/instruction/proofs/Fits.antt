@@ -33,10 +33,10 @@ use Rattle.instruction.specs.declared.Chosen.{Chosen}
 use Rattle.instruction.specs.declared.Built.{Built}
 use Rattle.instruction.specs.declared.Argument.{Argument}
 use Rattle.instruction.specs.declared.Argument.the-variants.{Nothing, Number, Target, Indexed, Relative, Registers}
-use Rattle.instruction.specs.Names.{modeRegister, modeOffset, modePcRelative, modeIncDec, modeExtended, modeImmediate}
+use Rattle.instruction.specs.Names.{modeRegister, modeOffset, modePcRelative, modeIncDec, modeExtended, modeDirect, modeImmediate}
 use Rattle.instruction.specs.Records.{stepped, recognised, agreeing, lawful, sound}
 use Rattle.instruction.specs.Forms.{onPage, becomesDirect, strays, lacks, needsValue}
-use Rattle.instruction.specs.Choosing.{settled, inherentOf, immediateOf, forcedWide, leavesDirect, staysDirect, addressOf, longBranch, branchOf, registerAt, offsetValue, accumulatorIndex, offsetIndex, targetIndex, stepIndex, addressIndex, indexOf, listedOf, registersOf, chooseOf}
+use Rattle.instruction.specs.Choosing.{settled, inherentOf, immediateOf, forcedWide, leavesDirect, staysDirect, directlyOf, anewAs, anewOf, addressOf, longBranch, branchOf, registerAt, offsetValue, accumulatorIndex, offsetIndex, targetIndex, stepIndex, addressIndex, indexOf, listedOf, registersOf, chooseOf}
 use Rattle.instruction.specs.Building.{earlyOf, acceptedOf, finishedOf, buildOf}
 use Rattle.instruction.proofs.Tests.{not-second, implied, or-left, or-right}
 use Rattle.instruction.proofs.Rows.{direct-extended, extended-size, branch-size, operation-small, long-merged}
@@ -285,9 +285,9 @@ module _ (i : Instruction) (v : Values) (dirty : Bool) (address : ℕ) (early : 
       named = refl;
     }
 
-    address-fits : Choice (addressOf i v dirty)
-    unfolding addressOf staysDirect leavesDirect
-    address-fits =
+    directly-fits : Choice (directlyOf i v dirty)
+    unfolding directlyOf staysDirect leavesDirect
+    directly-fits =
         let n = v .unsigned .number in
         by-test Choice (becomesDirect (i .operand) v dirty) (λ t. direct-fits (direct-below (i .operand) v dirty t))
         (λ _. by-pick Choice (eqb (i .form) direct)
@@ -296,6 +296,19 @@ module _ (i : Instruction) (v : Values) (dirty : Bool) (address : ℕ) (early : 
         (λ t. by-pick Choice (forcedWide i v) (λ z. absurd (omega arith))
         (direct-fits (let b = ltb-false 255 n (neither-right dirty (ltb 255 n) t) in omega arith))))
         (extended-fits (i .trial)))
+
+    -- what fits does not hang on the mark
+    anew-fits : Choice (anewOf i v dirty)
+    unfolding anewOf anewAs pick
+    anew-fits = go (becomesDirect (i .operand) v dirty) refl
+      where
+        go : (t : Bool) → becomesDirect (i .operand) v dirty ≡ t → Choice (anewAs i v (pick t direct extended))
+        go true t = λ z. let f = direct-fits (direct-below (i .operand) v dirty t) z in record { row = f .row; argument = f .argument; operation = inl refl; named = refl }
+        go false t = λ z. let f = extended-fits (i .trial) z in record { row = f .row; argument = f .argument; operation = inl refl; named = refl }
+
+    address-fits : Choice (addressOf i v dirty)
+    unfolding addressOf
+    address-fits = by-pick Choice (eqb (i .operand .mode) modeDirect) directly-fits anew-fits
 
   module _ (q : eqb (i .form) relative ≡ true) where
     target-word : v .unsigned .number < 65536
@@ -428,6 +441,17 @@ module _ (i : Instruction) (v : Values) (dirty : Bool) (address : ℕ) (early : 
       })
       (λ t z. absurd (eqb-false (l .refusal) 0 t z))
 
+-- the last of seven
+pub last-form : (f : ℕ) → f < 7 → eqb f 0 ≡ false → eqb f 1 ≡ false → eqb f 2 ≡ false → eqb f 4 ≡ false → eqb f 3 ≡ false → eqb f 5 ≡ false → eqb f 6 ≡ true
+last-form f h a b c d e g =
+    let a′ = eqb-false f 0 a in
+    let b′ = eqb-false f 1 b in
+    let c′ = eqb-false f 2 c in
+    let d′ = eqb-false f 4 d in
+    let e′ = eqb-false f 3 e in
+    let g′ = eqb-false f 5 g in
+    eq-eqb f 6 (omega arith)
+
 -- what is chosen, after 1, 2 and 3, fits
 pub choose-fits :
     (i : Instruction) (v : Values) (dirty : Bool) (address : ℕ) →
@@ -444,17 +468,7 @@ choose-fits i v dirty address e =
     (λ c. by-test P (eqb f indexed) (index-fits i v dirty address e)
     (λ d. by-test P (eqb f relative) (branch-fits i v dirty address e)
     (λ g. registers-fits i v dirty address e
-    (last f (e .small) a b (neither-left (eqb f direct) (eqb f extended) c) (neither-right (eqb f direct) (eqb f extended) c) d g))))))
-  where
-    last : (f : ℕ) → f < 7 → eqb f 0 ≡ false → eqb f 1 ≡ false → eqb f 2 ≡ false → eqb f 4 ≡ false → eqb f 3 ≡ false → eqb f 5 ≡ false → eqb f 6 ≡ true
-    last f h a b c d e g =
-        let a′ = eqb-false f 0 a in
-        let b′ = eqb-false f 1 b in
-        let c′ = eqb-false f 2 c in
-        let d′ = eqb-false f 4 d in
-        let e′ = eqb-false f 3 e in
-        let g′ = eqb-false f 5 g in
-        eq-eqb f 6 (omega arith)
+    (last-form f (e .small) a b (neither-left (eqb f direct) (eqb f extended) c) (neither-right (eqb f direct) (eqb f extended) c) d g))))))
 
 -- an accepted build is what was chosen, laid down
 pub record Builds (i : Instruction) (v : Values) (dirty : Bool) (address : ℕ) (b : Built) : Type 0 where

@@ -9,3 +9,4 @@ pub mod Refuses
 pub mod Fits
 pub mod Sizes
 pub mod Only
+pub mod AsFresh

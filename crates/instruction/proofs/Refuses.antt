@@ -29,10 +29,10 @@ use Rattle.instruction.specs.declared.Instruction.{Instruction}
 use Rattle.instruction.specs.declared.Chosen.{Chosen}
 use Rattle.instruction.specs.declared.Made.{Made}
 use Rattle.instruction.specs.declared.Built.{Built}
-use Rattle.instruction.specs.Names.{modeRegister, modeOffset, modePcRelative, modeIncDec, pshs, puls}
+use Rattle.instruction.specs.Names.{modeRegister, modeOffset, modePcRelative, modeIncDec, modeDirect, pshs, puls}
 use Rattle.instruction.specs.Records.{stepped, recognised, lawful, sound}
 use Rattle.instruction.specs.Forms.{becomesDirect, formOf, lacks, needsValue}
-use Rattle.instruction.specs.Choosing.{inherentOf, immediateOf, forcedWide, leavesDirect, staysDirect, addressOf, longBranch, branchOf, registerAt, accumulatorIndex, offsetIndex, targetIndex, stepIndex, addressIndex, indexOf, isPair, ownStack, listedOf, registersOf, chooseOf}
+use Rattle.instruction.specs.Choosing.{inherentOf, immediateOf, forcedWide, leavesDirect, staysDirect, directlyOf, anewAs, anewOf, addressOf, longBranch, branchOf, registerAt, accumulatorIndex, offsetIndex, targetIndex, stepIndex, addressIndex, indexOf, isPair, ownStack, listedOf, registersOf, chooseOf}
 use Rattle.instruction.specs.Building.{noValues, madeAs, makeOf, operandRefusal, earlyOf, acceptedOf, finishedOf, buildOf, handed, freshFrom, freshOf}
 use Rattle.instruction.proofs.Before.{make-refusal}
 use Rattle.instruction.proofs.Ready.{made-ready}
@@ -55,14 +55,16 @@ immediate-late i v =
     by-pick Chooses (eqb (numberSizeOf (i .operand .operation) immediate) 1 && ltb 255 (v .unsigned .number)) (inr (omega arith)) (inl refl)
 
 address-late : (i : Instruction) (v : Values) (dirty : Bool) → Chooses (addressOf i v dirty)
-unfolding addressOf staysDirect leavesDirect
+unfolding addressOf directlyOf staysDirect leavesDirect anewOf anewAs
 address-late i v dirty =
-    by-pick Chooses (becomesDirect (i .operand) v dirty) (inl refl)
+    by-pick Chooses (eqb (i .operand .mode) modeDirect)
+    (by-pick Chooses (becomesDirect (i .operand) v dirty) (inl refl)
     (by-pick Chooses (eqb (i .form) direct)
     (by-pick Chooses (dirty || ltb 255 (v .unsigned .number))
     (by-pick Chooses (i .trial) (inl refl) (inr (omega arith)))
     (by-pick Chooses (forcedWide i v) (inr (omega arith)) (inl refl)))
-    (inl refl))
+    (inl refl)))
+    (inl refl)
 
 branch-late : (i : Instruction) (v : Values) (address : ℕ) → Chooses (branchOf i v address)
 unfolding branchOf longBranch

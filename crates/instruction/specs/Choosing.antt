@@ -20,7 +20,7 @@ use Rattle.instruction.specs.declared.Instruction.{Instruction}
 use Rattle.instruction.specs.declared.Chosen.{Chosen}
 use Rattle.instruction.specs.declared.Argument.{Argument}
 use Rattle.instruction.specs.declared.Argument.the-variants.{Nothing, Number, Target, Indexed, Relative, Registers}
-use Rattle.instruction.specs.Names.{modeRegister, modeOffset, modePcRelative, modeIncDec, exg, tfr, pshs, puls}
+use Rattle.instruction.specs.Names.{modeRegister, modeOffset, modePcRelative, modeIncDec, modeExtended, modeDirect, exg, tfr, pshs, puls}
 use Rattle.instruction.specs.Forms.{becomesDirect}
 
 abbrev pub refuse : ℕ → Chosen
@@ -69,12 +69,31 @@ staysDirect i v dirty =
     pick (dirty || ltb 255 (v .unsigned .number)) (leavesDirect i v)
     (pick (forcedWide i v) (refuse badWidth) (settled i direct (Number (v .unsigned .number))))
 
--- "At each build: clean, unforced, below 256, Extended or Direct: becomes Direct."
-unfoldable pub addressOf : Instruction → Values → Bool → Chosen
-addressOf i v dirty =
+-- parser mode Direct. "At each build: clean, unforced, below 256, .. Direct: becomes Direct."
+unfoldable pub directlyOf : Instruction → Values → Bool → Chosen
+directlyOf i v dirty =
     pick (becomesDirect (i .operand) v dirty) (settled i direct (Number (v .unsigned .number)))
     (pick (eqb (i .form) direct) (staysDirect i v dirty)
     (settled i extended (Number (v .unsigned .number))))
+
+-- any other mode. 02 n: "an unforced one in Extended mode, on a row with Extended, becomes Extended each time": the form is chosen anew, as a fresh
+-- instruction's is, and the mark says that Direct was chosen
+unfoldable pub anewAs : Instruction → Values → ℕ → Chosen
+anewAs i v form = record {
+  refusal = 0;
+  operation = i .operand .operation;
+  form = form;
+  trial = eqb (i .operand .mode) modeExtended && eqb form direct;
+  widened = i .widened;
+  argument = Number (v .unsigned .number);
+}
+
+unfoldable pub anewOf : Instruction → Values → Bool → Chosen
+anewOf i v dirty = anewAs i v (pick (becomesDirect (i .operand) v dirty) direct extended)
+
+-- "7 only where the parser mode is Direct"
+unfoldable pub addressOf : Instruction → Values → Bool → Chosen
+addressOf i v dirty = pick (eqb (i .operand .mode) modeDirect) (directlyOf i v dirty) (anewOf i v dirty)
 
 -- ---- Relative
 -- a short branch that was made long, now or in an earlier build

@@ -4,3 +4,4 @@ pub mod Forms
 pub mod Choosing
 pub mod Bytes
 pub mod Building
+pub mod Sequences

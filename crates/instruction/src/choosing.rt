@@ -18,7 +18,7 @@ use rows::forms::*;
 use values::Value;
 ghost use mathlib.Core.Path.{_≡_};
 ghost use Rattle.postbytes.specs.Registers.{notIndexing};
-ghost use Rattle.instruction.specs.Choosing.{refuse, settled, inherentOf, immediateOf, forcedWide, leavesDirect, staysDirect, addressOf, longBranch, branchOf, offsetValue, accumulatorIndex, offsetIndex, targetIndex, stepIndex, addressIndex, indexOf, isPair, ownStack, listedOf, registersOf, chooseOf};
+ghost use Rattle.instruction.specs.Choosing.{refuse, settled, inherentOf, immediateOf, forcedWide, leavesDirect, staysDirect, directlyOf, anewAs, anewOf, addressOf, longBranch, branchOf, offsetValue, accumulatorIndex, offsetIndex, targetIndex, stepIndex, addressIndex, indexOf, isPair, ownStack, listedOf, registersOf, chooseOf};
 
 fn refused(n: u8) -> Chosen
     ensures { λ r. ⌜ r ≡ refuse n ⌝ }
@@ -111,8 +111,9 @@ fn stay_direct(i: Instruction, v: Values, dirty: bool) -> Chosen
     settle(i, DIRECT, Argument::Number(u.number))
 }
 
-fn address(i: Instruction, v: Values, dirty: bool) -> Chosen
-    ensures { λ r. ⌜ r ≡ addressOf i v dirty ⌝ }
+// Parser mode Direct.
+fn directly(i: Instruction, v: Values, dirty: bool) -> Chosen
+    ensures { λ r. ⌜ r ≡ directlyOf i v dirty ⌝ }
 {
     let o = i.operand;
     let u = v.unsigned;
@@ -124,6 +125,44 @@ fn address(i: Instruction, v: Values, dirty: bool) -> Chosen
         return stay_direct(i, v, dirty);
     }
     settle(i, EXTENDED, Argument::Number(number))
+}
+
+// A form that is chosen anew: the mark says that Direct was.
+fn anew_as(i: Instruction, v: Values, form: u8) -> Chosen
+    ensures { λ r. ⌜ r ≡ anewAs i v form ⌝ }
+{
+    let o = i.operand;
+    let u = v.unsigned;
+    let trial = (o.mode == MODE_EXTENDED) & (form == DIRECT);
+    Chosen {
+        refusal: 0,
+        operation: o.operation,
+        form,
+        trial,
+        widened: i.widened,
+        argument: Argument::Number(u.number),
+    }
+}
+
+// Any other mode: the form is chosen anew at each build, as a fresh instruction's is.
+fn anew(i: Instruction, v: Values, dirty: bool) -> Chosen
+    ensures { λ r. ⌜ r ≡ anewOf i v dirty ⌝ }
+{
+    let o = i.operand;
+    if becomes_direct(o, v, dirty) {
+        return anew_as(i, v, DIRECT);
+    }
+    anew_as(i, v, EXTENDED)
+}
+
+fn address(i: Instruction, v: Values, dirty: bool) -> Chosen
+    ensures { λ r. ⌜ r ≡ addressOf i v dirty ⌝ }
+{
+    let o = i.operand;
+    if o.mode == MODE_DIRECT {
+        return directly(i, v, dirty);
+    }
+    anew(i, v, dirty)
 }
 
 // A short branch that was made long, now or in an earlier build.

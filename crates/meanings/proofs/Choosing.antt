@@ -21,9 +21,9 @@ use Rattle.decoder.specs.Origin.{targetOf}
 use Rattle.instruction.specs.declared.Values.{Values}
 use Rattle.instruction.specs.declared.Instruction.{Instruction}
 use Rattle.instruction.specs.declared.Chosen.{Chosen}
-use Rattle.instruction.specs.Names.{modeRegister, modeOffset, modePcRelative, modeIncDec}
+use Rattle.instruction.specs.Names.{modeRegister, modeOffset, modePcRelative, modeIncDec, modeDirect}
 use Rattle.instruction.specs.Forms.{becomesDirect}
-use Rattle.instruction.specs.Choosing.{inherentOf, immediateOf, forcedWide, leavesDirect, staysDirect, addressOf, longBranch, branchOf, offsetValue, accumulatorIndex, offsetIndex, targetIndex, stepIndex, addressIndex, indexOf, listedOf, registersOf, chooseOf}
+use Rattle.instruction.specs.Choosing.{inherentOf, immediateOf, forcedWide, leavesDirect, staysDirect, directlyOf, anewAs, anewOf, addressOf, longBranch, branchOf, offsetValue, accumulatorIndex, offsetIndex, targetIndex, stepIndex, addressIndex, indexOf, listedOf, registersOf, chooseOf}
 use Rattle.meanings.specs.Means.{first, second, offsetIn, offsetKind, indexKind, kindOf}
 use Rattle.meanings.proofs.Operands.{argumentKind}
 
@@ -58,14 +58,16 @@ module _ (i : Instruction) (v : Values) (end : ℕ) where
       (λ z. absurd (omega arith)) (λ _. refl)
 
   address-means : (dirty : Bool) → Means (addressOf i v dirty)
-  unfolding addressOf staysDirect leavesDirect kindOf pick
+  unfolding addressOf directlyOf staysDirect leavesDirect anewOf anewAs kindOf pick
   address-means dirty =
-      by-pick Means (becomesDirect (i .operand) v dirty) (λ _. refl)
+      by-pick Means (eqb (i .operand .mode) modeDirect)
+      (by-pick Means (becomesDirect (i .operand) v dirty) (λ _. refl)
       (by-pick Means (eqb (i .form) forms.direct)
       (by-pick Means (dirty || ltb 255 (v .unsigned .number))
       (by-pick Means (i .trial) (λ _. refl) (λ z. absurd (omega arith)))
       (by-pick Means (forcedWide i v) (λ z. absurd (omega arith)) (λ _. refl)))
-      (λ _. refl))
+      (λ _. refl)))
+      (by-pick (λ (form : ℕ). Means (anewAs i v form)) (becomesDirect (i .operand) v dirty) (λ _. refl) (λ _. refl))
 
   branch-means : (address : ℕ) → Means (branchOf i v address)
   unfolding branchOf longBranch kindOf pick

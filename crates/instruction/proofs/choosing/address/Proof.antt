@@ -1,44 +1,31 @@
--- `instruction::choosing::address` meets its contract.
--- Assumes nothing.
-use borrow.Author.Needs.{needs}
 use borrow.Author.Tests.{eq-eqb, ne-eqb}
 use Rattle.ground.specs.Choice.{pick}
 use Rattle.instruction.specs.Choosing.{addressOf}
+use borrow.Author.Needs.{needs}
 use Rattle.instruction.proofs.choosing.address.Statement.{statement}
 use Rattle.instruction.proofs.choosing.address.Tie as tie
+use Rattle.instruction.proofs.choosing.address.Reads as reads
+use Rattle.instruction.proofs.choosing.address.Lts as lts
+use Rattle.instruction.proofs.choosing.anew.Reads as anew-reads
+use Rattle.instruction.proofs.choosing.directly.Reads as directly-reads
 
-becomes-direct-requires : tie.Need-becomes-direct-requires
-becomes-direct-requires c κs = search needs
+-- src/choosing.rt:163:9
+directly-requires : tie.Need-directly-requires
+directly-requires c κs = search needs
 
-settle-requires : tie.Need-settle-requires
-settle-requires c κs = search needs
-
+-- src/choosing.rt:163:9
 returns : tie.Need-returns
 unfolding addressOf pick
-returns c = rw (← c .before .before .becomes-direct .ensures, c .before .if1 .taken) (c .settle .ensures)
+returns c = rw (eq-eqb _ _ (c .before .if1 .taken)) (c .directly .ensures)
 
-stay-direct-requires : tie.Need-stay-direct-requires
-stay-direct-requires c κs = search needs
+-- src/choosing.rt:165:5
+anew-requires : tie.Need-anew-requires
+anew-requires c κs = search needs
 
+-- src/choosing.rt:158:1
 returns-2 : tie.Need-returns-2
 unfolding addressOf pick
-returns-2 c = rw (← c .before .before .before .before .becomes-direct .ensures, c .before .before .before .if1 .left, eq-eqb _ _ (c .before .if2 .taken)) (c .stay-direct .ensures)
-
-settle-requires-2 : tie.Need-settle-requires-2
-settle-requires-2 c κs = search needs
-
-returns-3 : tie.Need-returns-3
-unfolding addressOf pick
-returns-3 c = rw (← c .before .before .before .before .becomes-direct .ensures, c .before .before .before .if1 .left, ne-eqb _ _ (c .before .if2 .left)) (c .settle2 .ensures)
+returns-2 c = rw (ne-eqb _ _ (c .before .if1 .left)) (c .anew .ensures)
 
 pub address-spec : {M : Type 1} → statement M
-address-spec =
-    tie.close
-    (tie.spec
-    becomes-direct-requires
-    settle-requires
-    returns
-    stay-direct-requires
-    returns-2
-    settle-requires-2
-    returns-3)
+address-spec = tie.close (tie.spec directly-requires returns anew-requires returns-2)
