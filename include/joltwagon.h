@@ -158,7 +158,8 @@ enum {
     JW_PRESENT_CELLS = 6
 };
 
-/* A kept instruction: the operand's 15 cells, then what a build keeps. */
+/* A kept instruction: the operand's 15 cells, then what a build keeps. The form and the trial mark are those of a fresh build with the last values and
+ * page; only the widening is remembered. */
 enum { JW_FORM = 15, JW_TRIAL = 16, JW_WIDENED = 17, JW_KEPT_CELLS = 18 };
 
 /* The answer of jw_assemble and jw_build. */
@@ -231,7 +232,8 @@ uint8_t jw_make(const uint16_t *record, size_t record_len, uint16_t *answer, siz
 /* A fresh instruction, made and built from one record. */
 uint8_t jw_assemble(const uint16_t *record, size_t record_len, uint16_t address, uint16_t *answer, size_t answer_len);
 
-/* Builds a kept instruction: the answer has its bytes, and its row after the build. */
+/* Builds a kept instruction: the answer has its bytes, and its row after the build. Of a row that a call handed out, the bytes are those of a fresh
+ * instruction with these values and this page, but that a branch that was made long stays long. */
 uint8_t jw_build(const uint16_t *kept, size_t kept_len, const uint16_t *present, size_t present_len, uint16_t address,
                  uint16_t *answer, size_t answer_len);
 

@@ -125,7 +125,7 @@ static void refusals(void)
     refused("STA #1 before the answer's length", r, JW_RECORD_CELLS, 0, JW_NO_SUCH_MODE);
 }
 
-/* A kept instruction: Direct on trial becomes Extended, and stays so until it may be Direct again. */
+/* A kept instruction: at each build Direct or Extended, as a fresh one is, with the mark of a fresh one; far, near, far is D10. */
 static void kept(void)
 {
     uint16_t r[JW_RECORD_CELLS], row[JW_KEPT_CELLS], answer[JW_BUILT_CELLS];
@@ -148,10 +148,15 @@ static void kept(void)
     now[JW_UNSIGNED] = now[JW_SIGNED] = 0x20;
     same("build again", jw_build(row, JW_KEPT_CELLS, now, JW_PRESENT_CELLS, 0, answer, JW_BUILT_CELLS), JW_ACCEPTED);
     same("Direct again", answer[JW_BUILT_BYTES], 0x96);
+    same("the mark is back", answer[JW_BUILT_KEPT + JW_TRIAL], 1);
     memcpy(row, answer + JW_BUILT_KEPT, sizeof row);
     now[JW_PAGE_DIRTY] = 1;
+    same("a dirty page", jw_build(row, JW_KEPT_CELLS, now, JW_PRESENT_CELLS, 0, answer, JW_BUILT_CELLS), JW_ACCEPTED);
+    same("Extended again (D10)", answer[JW_BUILT_BYTES], 0xB6);
     fill(answer, JW_BUILT_CELLS);
-    same("no trial left", jw_build(row, JW_KEPT_CELLS, now, JW_PRESENT_CELLS, 0, answer, JW_BUILT_CELLS), JW_DIRECT_NOT_ALLOWED);
+    row[JW_MODE] = JW_MODE_DIRECT;
+    row[JW_TRIAL] = 0;
+    same("only mode Direct is 7", jw_build(row, JW_KEPT_CELLS, now, JW_PRESENT_CELLS, 0, answer, JW_BUILT_CELLS), JW_DIRECT_NOT_ALLOWED);
     same("a short row", jw_build(row, JW_KEPT_CELLS - 1, now, JW_PRESENT_CELLS, 0, answer, JW_BUILT_CELLS), JW_UNKNOWN);
     same("short values", jw_build(row, JW_KEPT_CELLS, now, JW_PRESENT_CELLS - 1, 0, answer, JW_BUILT_CELLS), JW_UNKNOWN);
     for (size_t i = 0; i < sizeof flags / sizeof *flags; i++) {

@@ -35,7 +35,7 @@ use Rattle.instruction.specs.declared.Argument.{Argument}
 use Rattle.instruction.specs.declared.Argument.the-variants.{Nothing, Number, Target, Indexed, Relative, Registers}
 use Rattle.instruction.specs.Names.{modeRegister, modeOffset, modePcRelative, modeIncDec, modeExtended}
 use Rattle.instruction.specs.Forms.{strays, needsValue}
-use Rattle.instruction.specs.Choosing.{inherentOf, immediateOf, leavesDirect, staysDirect, addressOf, longBranch, branchOf, accumulatorIndex, offsetIndex, targetIndex, stepIndex, addressIndex, indexOf, isPair, ownStack, listedOf, registersOf, chooseOf}
+use Rattle.instruction.specs.Choosing.{inherentOf, immediateOf, leavesDirect, staysDirect, directlyOf, anewAs, anewOf, addressOf, longBranch, branchOf, accumulatorIndex, offsetIndex, targetIndex, stepIndex, addressIndex, indexOf, isPair, ownStack, listedOf, registersOf, chooseOf}
 use Rattle.instruction.specs.Bytes.{numberBytes, operandBytes, codeSize, behindCode, laidAt, laidOf}
 use Rattle.instruction.specs.Building.{earlyOf, acceptedOf, finishedOf, buildOf, handed, makeOf, freshFrom, freshOf, bytesIn}
 use Rattle.instruction.proofs.Fits.{ArgumentFits, Fits, Early, early-leaves, unsigned-word, choose-fits}
@@ -75,12 +75,12 @@ module _ (i : Instruction) (v : Values) (early : Early i v) where
       (λ d. extended-word q (eqb-false (o .mode) 0 a) (eqb-false (o .mode) 1 b) (eqb-false (o .mode) 2 c) (eqb-false (o .mode) 3 d)))))
 
   choose-small : (dirty : Bool) (address : ℕ) → Small (chooseOf i v dirty address)
-  unfolding chooseOf inherentOf immediateOf addressOf staysDirect leavesDirect branchOf longBranch registersOf
+  unfolding chooseOf inherentOf immediateOf addressOf directlyOf staysDirect leavesDirect anewOf anewAs branchOf longBranch registersOf
   choose-small dirty address =
       by-pick Small (eqb (i .form) inherent) (by-pick Small _ tt tt)
       (by-pick Small (eqb (i .form) immediate) (by-pick Small _ tt tt)
       (by-pick Small (eqb (i .form) direct || eqb (i .form) extended)
-      (by-pick Small _ tt (by-pick Small _ (by-pick Small _ (by-pick Small _ tt tt) (by-pick Small _ tt tt)) tt))
+      (by-pick Small _ (by-pick Small _ tt (by-pick Small _ (by-pick Small _ (by-pick Small _ tt tt) (by-pick Small _ tt tt)) tt)) tt)
       (by-test Small (eqb (i .form) indexed) index-small
       (λ _. by-pick Small (eqb (i .form) relative)
       (by-pick Small _ tt (by-pick Small _ tt (by-pick Small _ tt (by-pick Small _ tt tt))))

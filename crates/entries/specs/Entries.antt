@@ -11,6 +11,7 @@ use Rattle.instruction.specs.declared.Operand.{Operand}
 use Rattle.instruction.specs.declared.Values.{Values}
 use Rattle.instruction.specs.declared.Record.{Record}
 use Rattle.instruction.specs.declared.Instruction.{Instruction}
+use Rattle.instruction.specs.Records.{withOperation}
 
 -- a number of 8 bits that is unknown as an operation, a mode, a register, a step and a width, and "over 8 registers" as a count
 abbrev pub nowhere : ℕ
@@ -69,16 +70,7 @@ fieldsIn row = record {
 
 -- an operand of no known operation
 abbrev pub unknownAs : Operand → Operand
-unknownAs o = record {
-  operation = nowhere;
-  mode = o .mode;
-  indirect = o .indirect;
-  forced = o .forced;
-  registers = o .registers;
-  count = o .count;
-  step = o .step;
-  widening = o .widening;
-}
+unknownAs o = withOperation nowhere o
 
 -- "field number unknown": the operand of a row with a flag that is neither 0 nor 1 is one of no known operation
 unfoldable pub toldIn : Bool → List ℕ → Operand

@@ -188,7 +188,8 @@ unfolding pick bitsOf extended validOf signExtendedOf tableOf page0 page10 page1
 cases = refl
 
 -- a long branch; a branch that stays long once it was made long, and one that may not be made long
--- a trial that fails is Extended, and becomes Direct again without its mark; Direct that is no trial is 7; forced and wide is 6
+-- in Extended mode near, far, near, far: each build is Direct or Extended as a fresh one is; far, near, far (D10); near, without a value, far: what is refused spoils
+-- nothing. In Direct mode far is 7, and near after it is Direct; forced and wide is 6
 -- PSHS S; TFR A,DP; INC immediate; the operation 1, which is none; a value of width 7; LDA #FFFF and LDX #FF
 pub further :
     map ask
@@ -198,7 +199,10 @@ pub further :
     again false (operand lda modeExtended 0 0 0) (valued 8 0x10 8 0x10) (address16 0x1000 ∷ []) ∷
     again false (operand lda modeExtended 0 0 0) (valued 8 0x10 8 0x10) (address16 0x1000 ∷ valued 8 0x10 8 0x10 ∷ []) ∷
     again false (operand lda modeExtended 0 0 0) (valued 8 0x10 8 0x10) (address16 0x1000 ∷ valued 8 0x10 8 0x10 ∷ address16 0x1000 ∷ []) ∷
+    again false (operand lda modeExtended 0 0 0) (address16 0x1000) (valued 8 0x10 8 0x10 ∷ address16 0x1000 ∷ []) ∷
+    again false (operand lda modeExtended 0 0 0) (valued 8 0x10 8 0x10) (missing ∷ address16 0x1000 ∷ []) ∷
     fresh false (operand lda modeDirect 0 0 0) (address16 0x0100) ∷
+    again false (operand lda modeDirect 0 0 0) (valued 8 0x10 8 0x10) (address16 0x1000 ∷ valued 8 0x10 8 0x10 ∷ []) ∷
     fresh false (forced (operand lda modeDirect 0 0 0)) (address16 0x0010) ∷
     fresh false (operand 138 modeRegister 1 S 0) missing ∷
     fresh false (operand 137 modeRegister 2 A DP) missing ∷
@@ -214,7 +218,10 @@ pub further :
     bytes (0xB6 ∷ 0x10 ∷ 0x00 ∷ []) ∷
     bytes (0x96 ∷ 0x10 ∷ []) ∷
     bytes (0xB6 ∷ 0x10 ∷ 0x00 ∷ []) ∷
+    bytes (0xB6 ∷ 0x10 ∷ 0x00 ∷ []) ∷
+    bytes (0xB6 ∷ 0x10 ∷ 0x00 ∷ []) ∷
     refused 7 ∷
+    bytes (0x96 ∷ 0x10 ∷ []) ∷
     refused 6 ∷
     refused 4 ∷
     dirtying (0x1F ∷ 0x8B ∷ []) ∷

@@ -39,6 +39,7 @@ use Rattle.instruction.specs.Forms.{onPage, becomesDirect, strays, lacks
 use Rattle.instruction.specs.Choosing.{settled, inherentOf, immediateOf, forcedWide, leavesDirect, staysDirect, directlyOf, anewAs, anewOf, addressOf, longBranch, branchOf, registerAt, offsetValue, accumulatorIndex, offsetIndex, targetIndex, stepIndex, addressIndex, indexOf, listedOf, registersOf, chooseOf}
 use Rattle.instruction.specs.Building.{earlyOf, acceptedOf, finishedOf, buildOf}
 use Rattle.instruction.proofs.Tests.{not-second, implied, or-left, or-right}
+use Rattle.instruction.proofs.Choice.{last-form}
 use Rattle.instruction.proofs.Rows.{direct-extended, extended-size, branch-size, operation-small, long-merged}
 
 -- ---- what fits
@@ -440,17 +441,6 @@ module _ (i : Instruction) (v : Values) (dirty : Bool) (address : ℕ) (early : 
         named = refl;
       })
       (λ t z. absurd (eqb-false (l .refusal) 0 t z))
-
--- the last of seven
-pub last-form : (f : ℕ) → f < 7 → eqb f 0 ≡ false → eqb f 1 ≡ false → eqb f 2 ≡ false → eqb f 4 ≡ false → eqb f 3 ≡ false → eqb f 5 ≡ false → eqb f 6 ≡ true
-last-form f h a b c d e g =
-    let a′ = eqb-false f 0 a in
-    let b′ = eqb-false f 1 b in
-    let c′ = eqb-false f 2 c in
-    let d′ = eqb-false f 4 d in
-    let e′ = eqb-false f 3 e in
-    let g′ = eqb-false f 5 g in
-    eq-eqb f 6 (omega arith)
 
 -- what is chosen, after 1, 2 and 3, fits
 pub choose-fits :

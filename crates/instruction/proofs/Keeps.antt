@@ -3,7 +3,7 @@
 -- Assumes nothing.
 use mathlib.Core.Path.{_≡_, refl, ap}
 use mathlib.Core.Bool.{Bool, true, false, _&&_}
-use mathlib.Core.List.{List, _++_}
+use mathlib.Core.List.{List, [], _∷_, _++_}
 use Prim.Native.Nat.{ℕ}
 use lib.Dec.{eqb, ltb}
 use lib.ListN.{length, take, drop}
@@ -20,6 +20,7 @@ use Rattle.instruction.specs.Records.{recognised, lawful}
 use Rattle.instruction.specs.Forms.{formOf, lacks}
 use Rattle.instruction.specs.Choosing.{chooseOf}
 use Rattle.instruction.specs.Building.{noInstruction, unmade, madeAs, makeOf, earlyOf, refusedWith, acceptedOf, finishedOf, buildOf, handed, freshFrom, freshOf, unplaced, placedOf, bufferOf}
+use Rattle.instruction.specs.Sequences.{builtWith, keptAfter, SpoilsNothing}
 
 -- a refused record makes nothing
 pub make-keeps : (r : Record) → (makeOf r .refusal ≡ 0 → ⊥) → makeOf r ≡ unmade (makeOf r .refusal)
@@ -76,3 +77,9 @@ fresh-keeps r address =
     by-pick P (eqb (makeOf r .refusal) 0)
     (by-test P (eqb (b .refusal) 0) (λ e h. absurd (h (eqb-true (b .refusal) 0 e))) (λ _ _. refl))
     (λ _. refl)
+
+-- so it is, among other builds, as if it had not been asked for
+pub spoils-nothing : SpoilsNothing
+unfolding keptAfter
+spoils-nothing i [] p qs h = ap (λ (b : Built). keptAfter (b .instruction) qs) (refusal-keeps i (p .values) (p .dirty) (p .address) h)
+spoils-nothing i (q ∷ ps) p qs h = spoils-nothing (builtWith i q .instruction) ps p qs h

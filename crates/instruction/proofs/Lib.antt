@@ -5,8 +5,13 @@ pub mod Ready
 pub mod Cases
 pub mod Rows
 pub mod Before
+pub mod Choice
 pub mod Refuses
 pub mod Fits
 pub mod Sizes
 pub mod Only
+pub mod Formed
+pub mod Kept
 pub mod AsFresh
+pub mod Long
+pub mod Seven

@@ -28,7 +28,7 @@ abbrev made : Instruction → Made
 made i = record { refusal = 0; instruction = i }
 
 record Makes (r : Record) (m : Made) : Type 0 where
-  whole : m ≡ made (instructionOf (r .operand) (m .instruction .form))
+  whole : m ≡ made (instructionOf (r .operand) (formOf (r .operand) (r .values) (r .dirty)))
   right : sound (m .instruction) (r .values) ≡ true
   has : lacks (m .instruction .operand) (m .instruction .form) ≡ false
 
@@ -56,10 +56,15 @@ pub made-of :
     n ≡ 0 →
     i ≡ instructionOf (r .operand) form →
     makeOf r ≡ made i
+unfolding instructionOf
 made-of r en ef z ei =
-    make-makes r (sym en ∙ z) .whole
-    ∙ ap (λ (f : ℕ). made (instructionOf (r .operand) f)) (sym ef)
+    let whole = make-makes r (sym en ∙ z) .whole in
+    whole
+    ∙ ap (λ (f : ℕ). made (instructionOf (r .operand) f)) (sym (ef ∙ ap (λ (m : Made). m .instruction .form) whole))
     ∙ ap made (sym ei)
+
+pub made-whole : (r : Record) → makeOf r .refusal ≡ 0 → makeOf r ≡ made (instructionOf (r .operand) (formOf (r .operand) (r .values) (r .dirty)))
+made-whole r z = make-makes r z .whole
 
 pub made-ready : (r : Record) (i : Instruction) → makeOf r ≡ made i → (sound i (r .values) ≡ true) × (lacks (i .operand) (i .form) ≡ false)
 made-ready r i e =

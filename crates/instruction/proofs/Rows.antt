@@ -1,22 +1,24 @@
 -- What the rows tell an instruction: how many bytes a form's number has, that Direct and Extended stand in a row together, that short branches have no
--- prefix, and that a long branch is no alias. By the definitions, and by the quick ways of `rows` where a whole table would be searched.
+-- prefix, that a branch has no address, and that a long branch is no alias. By the definitions, and by the quick ways of `rows` where a whole table
+-- would be searched.
 -- Assumes nothing.
 use mathlib.Core.Path.{_≡_, refl, sym, ap, _∙_}
-use mathlib.Core.Bool.{Bool, true, false, not, false≢true}
+use mathlib.Core.Bool.{Bool, true, false, not, _||_, false≢true}
 use mathlib.Core.List.{[], _∷_}
-use Prim.Native.Nat.{ℕ, _-_, _*_, _<_}
+use Prim.Native.Nat.{ℕ, _*_, _<_}
 use native.Mathlib.Omega.{arith}
-use lib.Dec.{eqb, ltb, leb}
-use borrow.Author.Tests.{ltb-false, lt-ltb, eqb-true, leb-true, not-false}
+use lib.Dec.{T, eqb, ltb, leb, eqb→eq}
+use borrow.Author.Tests.{ltb-false, lt-ltb, eqb-true, ne-eqb, leb-true, not-false}
 use Rattle.ground.specs.Choice.{pick}
 use Rattle.ground.proofs.Choices.{pick-true, by-test}
+use Rattle.ground.proofs.Ranges.{upto, below}
 use Rattle.ground.proofs.Tests.{both-second, neither-left}
 use Rattle.rows.specs.declared.Coded.{Coded}
 use Rattle.rows.specs.declared.Coded.the-variants.{Code, Unknown, Missing}
 use Rattle.rows.specs.Forms.{direct, extended, relative}
 use Rattle.rows.specs.Lookup.{mergedOf, isCode, hasFormOf, codeOf}
 use Rattle.rows.specs.Sizes.{anyOf, isLong, numberAt, ofCode, numberSizeOf, between, longFrom, longOf}
-use Rattle.rows.specs.Quick.{memoryBytes, numberBytes}
+use Rattle.rows.specs.Quick.{memoryBytes, branchBytes, numberBytes}
 use Rattle.rows.proofs.Codes.{has-form-code, has-form-known}
 use Rattle.rows.proofs.Laws.{decoded, row-small}
 use Rattle.rows.proofs.Bytes.{number-quick}
@@ -111,6 +113,25 @@ direct-extended o = alike (hasFormOf o direct) (hasFormOf o extended) there back
     alike true b f g p q = p ∙ sym (f p)
     alike false true f g p q = g q ∙ sym q
     alike false false f g p q = p ∙ sym q
+
+-- a row of a branch has no address: no operation has the bytes of both
+one-number : T (upto (λ (o : ℕ). eqb (memoryBytes o) 0 || eqb (branchBytes o) 0) 146)
+unfolding memoryBytes branchBytes pick
+one-number = tt
+
+pub branch-only : (o : ℕ) → hasFormOf o relative ≡ true → hasFormOf o extended ≡ false
+unfolding numberBytes pick
+branch-only o h = from (hasFormOf o extended) refl
+  where
+    from : (t : Bool) → hasFormOf o extended ≡ t → hasFormOf o extended ≡ false
+    from false q = q
+    from true q =
+        let a : 2 * memoryBytes (mergedOf o) ≡ numberSizeOf o extended = quick o extended relative h in
+        let b : branchBytes (mergedOf o) ≡ numberSizeOf o relative = quick o relative relative h in
+        let t = below (λ (k : ℕ). eqb (memoryBytes k) 0 || eqb (branchBytes k) 0) 146 one-number (mergedOf o) (merged-small o relative h) in
+        let m : memoryBytes (mergedOf o) ≡ 0 → ⊥ = λ z. omega (arith, z, a, extended-size o q) in
+        let none : branchBytes (mergedOf o) ≡ 0 = eqb→eq (branchBytes (mergedOf o)) 0 (rw (ne-eqb (memoryBytes (mergedOf o)) 0 m) at t) in
+        absurd (omega (arith, none, b, branch-size o h (λ two. omega (arith, none, b, two))))
 
 -- a long branch is no alias
 long-plain : (o : ℕ) → mergedOf o < 146 → longOf o < 146

@@ -1,4 +1,4 @@
--- What two tests together tell of each.
+-- What tests together tell of each, and each of them together.
 -- Assumes nothing.
 use mathlib.Core.Path.{_≡_, refl}
 use mathlib.Core.Bool.{Bool, true, false, _&&_, _||_, not, false≢true}
@@ -21,3 +21,9 @@ or-left false b h = absurd (false≢true h)
 pub or-right : (a b : Bool) → b ≡ true → (a || b) ≡ true
 or-right true b h = refl
 or-right false b h = h
+
+-- the last of three does not pass
+pub not-third : (a b : Bool) → (a && (b && false)) ≡ false
+not-third true true = refl
+not-third true false = refl
+not-third false b = refl

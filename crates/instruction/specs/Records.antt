@@ -11,6 +11,19 @@ use Rattle.instruction.specs.declared.Values.{Values}
 use Rattle.instruction.specs.declared.Instruction.{Instruction}
 use Rattle.instruction.specs.Names.{modeIncDec}
 
+-- the operand with another operation
+abbrev pub withOperation : ℕ → Operand → Operand
+withOperation operation o = record {
+  operation = operation;
+  mode = o .mode;
+  indirect = o .indirect;
+  forced = o .forced;
+  registers = o .registers;
+  count = o .count;
+  step = o .step;
+  widening = o .widening;
+}
+
 -- "IncDec without a step", whatever the row; steps are numbered 0, which is none, to 4
 unfoldable pub stepped : Operand → Bool
 stepped o = leb (o .step) 4 && (not (eqb (o .mode) modeIncDec) || ltb 0 (o .step))

@@ -1,14 +1,23 @@
--- 02 n: "in any sequence of builds, after each accepted one, mode and bytes are those of a fresh one with the same values and page".
+-- 02 n: "in any sequence of builds, after each accepted one, mode and bytes are those of a fresh one with the same values and page. A widened branch still
+-- stays long. .. Refusals: 7 only where the parser mode is Direct."
 use mathlib.Core.Path.{_≡_}
-use mathlib.Core.Bool.{Bool, false}
-use mathlib.Core.List.{List, [], _∷_}
+use mathlib.Core.Bool.{Bool, true, false, _||_}
+use mathlib.Core.List.{List, [], _∷_, _++_}
 use Prim.Native.Nat.{ℕ}
+use lib.Dec.{ltb}
+use Rattle.ground.specs.Refusals.{directNotAllowed}
+use Rattle.rows.specs.Forms.{direct, extended, relative}
+use Rattle.rows.specs.Lookup.{hasFormOf}
+use Rattle.rows.specs.Sizes.{numberSizeOf, longOf}
 use Rattle.instruction.specs.declared.Operand.{Operand}
 use Rattle.instruction.specs.declared.Values.{Values}
 use Rattle.instruction.specs.declared.Record.{Record}
 use Rattle.instruction.specs.declared.Instruction.{Instruction}
 use Rattle.instruction.specs.declared.Built.{Built}
-use Rattle.instruction.specs.Building.{makeOf, buildOf, handed, freshOf}
+use Rattle.instruction.specs.Names.{modeDirect}
+use Rattle.instruction.specs.Records.{withOperation}
+use Rattle.instruction.specs.Forms.{formOf}
+use Rattle.instruction.specs.Building.{makeOf, earlyOf, buildOf, handed, freshOf}
 
 -- what a build takes anew
 pub record Present : Type 0 where
@@ -35,3 +44,67 @@ AsFresh =
     makeOf r .refusal ≡ 0 →
     keptAfter (makeOf r .instruction) ps .widened ≡ false →
     handed (builtWith (keptAfter (makeOf r .instruction) ps) p) ≡ freshWith (r .operand) p
+
+-- a build that is refused, among others, changes nothing and spoils nothing after it: any kept instruction comes out as if it had not been asked for
+abbrev pub SpoilsNothing : Type 0
+SpoilsNothing =
+    (i : Instruction) (ps : List Present) (p : Present) (qs : List Present) →
+    (builtWith (keptAfter i ps) p .refusal ≡ 0 → ⊥) →
+    keptAfter i (ps ++ (p ∷ qs)) ≡ keptAfter i (ps ++ qs)
+
+-- ---- a widened branch
+-- nothing is ever widened but a short branch that may be made long
+abbrev pub OnlyShortWidens : Type 0
+OnlyShortWidens =
+    (r : Record) (ps : List Present) →
+    makeOf r .refusal ≡ 0 →
+    keptAfter (makeOf r .instruction) ps .widened ≡ true →
+    (formOf (r .operand) (r .values) (r .dirty) ≡ relative) × ((numberSizeOf (r .operand .operation) relative ≡ 1) × (r .operand .widening ≡ true))
+
+-- "on a row with Extended": never, whatever the mode, so of these rows AsFresh says it of every build
+abbrev pub NeverWidened : Type 0
+NeverWidened =
+    (r : Record) (ps : List Present) →
+    makeOf r .refusal ≡ 0 →
+    hasFormOf (r .operand .operation) extended ≡ true →
+    keptAfter (makeOf r .instruction) ps .widened ≡ false
+
+-- "A widened branch still stays long": any kept instruction that is widened is so after a build, accepted or refused
+abbrev pub StaysLong : Type 0
+StaysLong = (i : Instruction) (p : Present) → i .widened ≡ true → builtWith i p .instruction .widened ≡ true
+
+-- the operand of the long branch
+abbrev pub lengthened : Operand → Operand
+lengthened o = withOperation (longOf (o .operation)) o
+
+-- the short branch as it is kept once it is long
+abbrev pub longKept : Operand → Instruction
+longKept o = record { operand = o; form = relative; trial = false; widened = true }
+
+-- an answer that hands that instruction back
+abbrev pub handingBack : Instruction → Built → Built
+handingBack i b = record { refusal = b .refusal; instruction = i; bytes = b .bytes; length = b .length; dirties = b .dirties }
+
+-- once widened, what is kept does not change any more, and each build answers as a fresh one of the long branch: bytes, page and refusal
+abbrev pub LongAfter : Type 0
+LongAfter =
+    (r : Record) (ps : List Present) (p : Present) →
+    makeOf r .refusal ≡ 0 →
+    keptAfter (makeOf r .instruction) ps .widened ≡ true →
+    (keptAfter (makeOf r .instruction) ps ≡ longKept (r .operand))
+    × (builtWith (keptAfter (makeOf r .instruction) ps) p ≡ handingBack (longKept (r .operand)) (freshWith (lengthened (r .operand)) p))
+
+-- ---- refusal 7
+-- in parser mode Direct, 1 to 3 passed: Direct, not on trial, "with page dirty or value above 255"
+pub record OutOfReach (i : Instruction) (p : Present) : Type 0 where
+  pub passed : earlyOf i (p .values) ≡ 0
+  pub mode : i .operand .mode ≡ modeDirect
+  pub form : i .form ≡ direct
+  pub unmarked : i .trial ≡ false
+  pub beyond : (p .dirty || ltb 255 (p .values .unsigned .number)) ≡ true
+
+-- "7 only where the parser mode is Direct": of every kept instruction, and there exactly when it is out of reach
+abbrev pub SevenDirect : Type 0
+SevenDirect =
+    (i : Instruction) (p : Present) →
+    (builtWith i p .refusal ≡ directNotAllowed → OutOfReach i p) × (OutOfReach i p → builtWith i p .refusal ≡ directNotAllowed)

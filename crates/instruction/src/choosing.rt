@@ -77,7 +77,7 @@ fn is_forced_wide(i: Instruction, v: Values) -> bool
     o.forced & (u.width == 16)
 }
 
-// On trial an address that Direct does not reach is Extended after all.
+// On trial an address that Direct does not reach is Extended after all. No call sets the mark in parser mode Direct; a row that has it is built by 01's rule.
 fn leave_direct(i: Instruction, v: Values) -> Chosen
     ensures { λ r. ⌜ r ≡ leavesDirect i v ⌝ }
 {

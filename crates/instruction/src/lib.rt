@@ -53,7 +53,8 @@ pub struct Record {
     pub values: Values,
 }
 
-// A kept instruction: with its form, its trial mark and whether its short branch was made long.
+// A kept instruction: with its form, its trial mark and whether its short branch was made long. Of one that was made, the last is all that is remembered: the form
+// is what the operand asks for with the values and the page of the last accepted build, and the mark says that Direct was chosen for it (02 n).
 pub struct Instruction {
     pub operand: Operand,
     pub form: u8,

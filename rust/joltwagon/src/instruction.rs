@@ -87,7 +87,8 @@ fn record(id: Operation, od: &OperandDescriptor, widening: bool) -> [u16; raw::R
     row
 }
 
-/// An instruction that is built again in each pass, and keeps its form, its trial mark and a widening.
+/// An instruction that is built again in each pass. It remembers whether its short branch was made long; otherwise each build that is accepted gives the bytes of a fresh
+/// one, whatever was built or refused before it.
 #[derive(Clone, PartialEq, Eq, Debug)]
 pub struct Instruction {
     value: Option<NodeId>,

@@ -67,6 +67,25 @@ fn a_branch_is_widened_and_stays_so() {
 }
 
 #[test]
+fn an_address_is_chosen_anew_at_each_build() {
+    let mut labels = ProgramLabels::new();
+    let there = Some(labels.node(Node::Label("there")));
+    labels.new_definition("there", 0x1000, None).unwrap();
+    let (near, far) = (&[0x96, 0x10][..], &[0xB6, 0x10, 0x00][..]);
+    let mut lda = Instruction::try_new(named("LDA"), &operand(Mode::Extended, there), 0, &labels, false, true).unwrap();
+    let mut direct = Instruction::try_new(named("LDA"), &operand(Mode::Direct, there), 0, &labels, false, true).unwrap();
+    assert_eq!(lda.build(0, &labels, false), Ok(far));
+    assert_eq!(direct.build(0, &labels, false), Err(Refused(7)));
+    assert_eq!(labels.set_address("there", 0x10), Ok(0x1000));
+    assert_eq!(lda.build(0, &labels, false), Ok(near));
+    assert_eq!(direct.build(0, &labels, false), Ok(near));
+    assert_eq!(labels.set_address("there", 0x1000), Ok(0x10));
+    // The old tool refuses this third build (D10).
+    assert_eq!(lda.build(0, &labels, false), Ok(far));
+    assert_eq!(direct.build(0, &labels, false), Err(Refused(7)));
+}
+
+#[test]
 fn a_dirty_page_stays_dirty() {
     let mut labels = ProgramLabels::new();
     let low = operand(Mode::Extended, Some(labels.node(Node::Constant(0x20))));
