@@ -18,8 +18,8 @@ use Rattle.instruction.specs.Forms.{formOf, lacks, needsValue}
 use Rattle.instruction.specs.Choosing.{chooseOf}
 use Rattle.instruction.specs.Building.{noInstruction, instructionOf, madeAs, makeOf, earlyOf, refusedWith, acceptedOf, finishedOf, buildOf, handed, freshFrom, freshOf}
 use Rattle.instruction.specs.Sequences.{Present, builtWith, keptAfter, freshWith, AsFresh}
-use Rattle.instruction.proofs.Tests.{not-third}
 use Rattle.instruction.proofs.Before.{lacks-alike}
+use Rattle.instruction.proofs.Ready.{fresh-built}
 use Rattle.instruction.proofs.Formed.{isMemory, Free, one-of-two}
 use Rattle.instruction.proofs.Kept.{plain, Kept, steady, free, long, anew, is-extended, one-of, chosen-anew, made-lasts}
 
@@ -62,44 +62,20 @@ module _ (o : Operand) (fr : Free o) (i : Instruction) (m : isMemory (i .form) �
   free-out v dirty address = rw (handed-out i v dirty address, early-extended v, chosen-anew o fr i m e w v dirty address, e)
 
 -- ---- each build as a fresh one
--- unlawful values are 1, whoever meets them
-pub unlawful-early : (i : Instruction) (v : Values) → lawful v ≡ false → earlyOf i v ≡ 1
-unfolding earlyOf sound pick
-unlawful-early i v q = rw (q, not-third (recognised (i .operand)) (ltb (i .form) 7))
+kept-fresh : (o : Operand) (i : Instruction) → Kept o i → i .widened ≡ false → (p : Present) → handed (builtWith i p) ≡ freshWith o p
+unfolding instructionOf
+kept-fresh o i k short p = go k ∙ sym (fresh-built (record { operand = o; dirty = p .dirty; values = p .values }) (p .address))
+  where
+    v : Values
+    v = p .values
 
-module _ (o : Operand) (known : recognised o ≡ true) (has : (v : Values) (dirty : Bool) → lacks o (formOf o v dirty) ≡ false) where
-  -- a fresh one is made and built
-  pub fresh-lawful :
-      (p : Present) → lawful (p .values) ≡ true →
-      freshWith o p ≡ handed (buildOf (instructionOf o (formOf o (p .values) (p .dirty))) (p .values) (p .dirty) (p .address))
-  unfolding freshOf freshFrom makeOf madeAs pick
-  fresh-lawful p q = rw (known, q, has (p .values) (p .dirty))
+    d : Bool
+    d = p .dirty
 
-  pub fresh-unlawful : (p : Present) → lawful (p .values) ≡ false → freshWith o p ≡ refusedWith noInstruction 1
-  unfolding freshOf freshFrom makeOf pick
-  fresh-unlawful p q = rw (known, q)
-
-  kept-fresh : (i : Instruction) → Kept o i → i .widened ≡ false → (p : Present) → handed (builtWith i p) ≡ freshWith o p
-  unfolding instructionOf pick
-  kept-fresh i k short p = go (lawful (p .values)) refl k
-    where
-      v : Values
-      v = p .values
-
-      d : Bool
-      d = p .dirty
-
-      go : (t : Bool) → lawful v ≡ t → Kept o i → handed (builtWith i p) ≡ freshWith o p
-      go false q _ = handed-out i v d (p .address) ∙ rw (unlawful-early i v q) refl ∙ sym (fresh-unlawful p q)
-      go true q (steady f s e) =
-          ap (λ (j : Instruction). handed (builtWith j p)) (e ∙ sym (rw (s .always v d, s .unmarked))) ∙ sym (fresh-lawful p q)
-      go true q (free f m e w) =
-          free-out o f i m e w v d (p .address)
-          ∙ sym (free-out o f (instructionOf o (formOf o v d)) (one-of-two o f v d) refl refl v d (p .address))
-          ∙ sym (fresh-lawful p q)
-      go true q (long b e) = absurd (true≢false (sym (ap (λ (j : Instruction). j .widened) e) ∙ short))
+    go : Kept o i → handed (builtWith i p) ≡ handed (builtWith (instructionOf o (formOf o v d)) p)
+    go (steady f s e) = ap (λ (j : Instruction). handed (builtWith j p)) (e ∙ sym (rw (s .always v d, s .unmarked)))
+    go (free f m e w) = free-out o f i m e w v d (p .address) ∙ sym (free-out o f (instructionOf o (formOf o v d)) (one-of-two o f v d) refl refl v d (p .address))
+    go (long b e) = absurd (true≢false (sym (ap (λ (j : Instruction). j .widened) e) ∙ short))
 
 pub as-fresh : AsFresh
-as-fresh r ps p z short =
-    let m = made-lasts r z in
-    kept-fresh (r .operand) (m .known) (m .has) (keptAfter (makeOf r .instruction) ps) (m .kept ps) short p
+as-fresh r ps p z short = kept-fresh (r .operand) (keptAfter (makeOf r .instruction) ps) (made-lasts r z .kept ps) short p

@@ -1,4 +1,4 @@
--- Every choice of a build that passed 1 is a refusal 4, 5, 6 or 8, the kept form settled on, the long branch, or a memory form's; and a memory form's is
+-- Every choice of a build whose registers are known is a refusal 4, 5, 6 or 8, the kept form settled on, the long branch, or a memory form's; and a memory form's is
 -- Direct or Extended with the number, 6, or 7. So what holds of these holds of every choice.
 -- Assumes nothing.
 use mathlib.Core.Path.{_≡_, refl}
@@ -32,6 +32,7 @@ use Rattle.instruction.specs.Records.{stepped, recognised}
 use Rattle.instruction.specs.Forms.{becomesDirect}
 use Rattle.instruction.specs.Choosing.{refuse, settled, inherentOf, immediateOf, forcedWide, leavesDirect, staysDirect, directlyOf, anewAs, anewOf, addressOf, longBranch, branchOf, registerAt, accumulatorIndex, offsetIndex, targetIndex, stepIndex, addressIndex, indexOf, isPair, ownStack, listedOf, registersOf, chooseOf}
 use Rattle.instruction.proofs.Tests.{or-left, or-right}
+use Rattle.instruction.proofs.Formed.{isMemory}
 
 -- 4, 5, 6 or 8
 abbrev pub Told : ℕ → Type 0
@@ -44,17 +45,16 @@ own-stack : (o : ℕ) → notStack (ownStack o) ≡ false
 unfolding ownStack
 own-stack o = by-pick (λ (own : ℕ). notStack own ≡ false) (eqb o pshs || eqb o puls) refl refl
 
-not-strange : (o : Operand) → recognised o ≡ true → strangeList (o .registers) (o .count) ≡ false
+pub not-strange : (o : Operand) → recognised o ≡ true → strangeList (o .registers) (o .count) ≡ false
 unfolding recognised
 not-strange o known =
     let strange = strangeList (o .registers) (o .count) in
     let moded = both-second (knownOf (o .operation)) (ltb (o .mode) 8 && (not strange && stepped o)) known in
     not-true strange (both-first (not strange) (stepped o) (both-second (ltb (o .mode) 8) (not strange && stepped o) moded))
 
-listed-told : (o : Operand) → recognised o ≡ true → (listedOf o .refusal ≡ 0 → ⊥) → Told (listedOf o .refusal)
+listed-told : (o : Operand) → strangeList (o .registers) (o .count) ≡ false → (listedOf o .refusal ≡ 0 → ⊥) → Told (listedOf o .refusal)
 unfolding listedOf pairedOf pushOf pick
-listed-told o known =
-    let h = not-strange o known in
+listed-told o h =
     let P : Listed → Type 0 = λ l. (l .refusal ≡ 0 → ⊥) → Told (l .refusal) in
     by-pick P (isPair (o .operation))
     (rw h (by-pick P (not (eqb (o .count) 2) || not (eqb (sizeOf (registerAt o 0)) (sizeOf (registerAt o 1)))) (λ _. omega arith) (λ z. absurd (z refl))))
@@ -107,9 +107,9 @@ module _ (i : Instruction) (v : Values) (dirty : Bool) (address : ℕ) (P : Chos
       (λ _. by-pick P (nearOf (minus (v .unsigned .number) (plus address 2))) (same relative _ q)
       (by-test P a (λ t. long q s (or-right w a t)) (λ _. no branchTooFar (omega arith)))))
 
-  pub choice : recognised (i .operand) ≡ true → i .form < 7 → P (chooseOf i v dirty address)
+  pub choice : strangeList (i .operand .registers) (i .operand .count) ≡ false → i .form < 7 → P (chooseOf i v dirty address)
   unfolding chooseOf inherentOf immediateOf registersOf
-  choice known small =
+  choice h small =
       let f = i .form in
       let l = listedOf (i .operand) .refusal in
       by-test P (eqb f inherent) (λ q. by-pick P (v .given) (no badWidth (omega arith)) (same inherent _ q))
@@ -120,12 +120,12 @@ module _ (i : Instruction) (v : Values) (dirty : Bool) (address : ℕ) (P : Chos
       (λ d. by-test P (eqb f relative) branch-choice
       (λ e. by-test P (eqb l 0)
       (λ _. same register _ (last-form f small a b (neither-left (eqb f direct) (eqb f extended) c) (neither-right (eqb f direct) (eqb f extended) c) d e))
-      (λ r. no l (listed-told (i .operand) known (eqb-false l 0 r))))))))
+      (λ r. no l (listed-told (i .operand) h (eqb-false l 0 r))))))))
 
 -- ---- Direct and Extended
 module _ (i : Instruction) (v : Values) (dirty : Bool) (P : Chosen → Type 0)
     (some :
-    (form : ℕ) (trial : Bool) →
+    (form : ℕ) (trial : Bool) → isMemory form ≡ true →
     P (record { refusal = 0; operation = i .operand .operation; form = form; trial = trial; widened = i .widened; argument = Number (v .unsigned .number) }))
     (six : P (refuse badWidth))
     (seven :
@@ -135,10 +135,10 @@ module _ (i : Instruction) (v : Values) (dirty : Bool) (P : Chosen → Type 0)
   unfolding addressOf directlyOf staysDirect leavesDirect anewOf anewAs
   address-choice =
       by-test P (eqb (i .operand .mode) modeDirect)
-      (λ m. by-pick P (becomesDirect (i .operand) v dirty) (some direct (i .trial))
+      (λ m. by-pick P (becomesDirect (i .operand) v dirty) (some direct (i .trial) refl)
       (by-test P (eqb (i .form) direct)
       (λ f. by-test P (dirty || ltb 255 (v .unsigned .number))
-      (λ b. by-test P (i .trial) (λ _. some extended false) (seven m f b))
-      (λ _. by-pick P (forcedWide i v) six (some direct (i .trial))))
-      (λ _. some extended (i .trial))))
-      (λ _. some _ _)
+      (λ b. by-test P (i .trial) (λ _. some extended false refl) (seven m f b))
+      (λ _. by-pick P (forcedWide i v) six (some direct (i .trial) refl)))
+      (λ _. some extended (i .trial) refl)))
+      (λ _. some _ _ (by-pick (λ (f : ℕ). isMemory f ≡ true) (becomesDirect (i .operand) v dirty) refl refl))

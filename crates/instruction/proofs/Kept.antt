@@ -29,7 +29,7 @@ use Rattle.instruction.specs.Building.{noValues, instructionOf, makeOf, 
 use Rattle.instruction.specs.Sequences.{Present, builtWith, keptAfter, longKept}
 use Rattle.instruction.proofs.Before.{lacks-same}
 use Rattle.instruction.proofs.Ready.{lacking-none, made-whole, made-ready}
-use Rattle.instruction.proofs.Choice.{choice}
+use Rattle.instruction.proofs.Choice.{not-strange, choice}
 use Rattle.instruction.proofs.Formed.{isMemory, Steady, Free, Formed, is-steady, is-free, one-of-two, formed, IsBranch, relative-branch}
 
 -- unmarked and not widened
@@ -69,11 +69,11 @@ module _ (o : Operand) (f : ℕ) (st : Steady o f) (v : Values) (dirty : Bool) (
 
   steady-next : recognised o ≡ true → f < 7 → Next o (chooseOf (plain o f) v dirty address)
   unfolding longBranch
-  steady-next =
+  steady-next known =
       choice (plain o f) v dirty address (Next o) (λ n t z. absurd (omega arith))
       (λ form a q _. steady f st (ap (plain o) (sym (eqb-true f form q))))
       (λ q s a _. long (record { branch = relative-branch o noValues false (st .always noValues false ∙ eqb-true f relative q); short = s; allowed = a }) refl)
-      address-next
+      address-next (not-strange o known)
 
 -- ---- a free form is chosen anew
 module _ (o : Operand) (fr : Free o) (i : Instruction) (m : isMemory (i .form) ≡ true) (e : i .operand ≡ o) (w : i .widened ≡ false) where

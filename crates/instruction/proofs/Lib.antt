@@ -15,3 +15,4 @@ pub mod Kept
 pub mod AsFresh
 pub mod Long
 pub mod Seven
+pub mod Quick

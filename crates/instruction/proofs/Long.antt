@@ -8,7 +8,7 @@ use native.Mathlib.Omega.{arith}
 use lib.Dec.{eqb, ltb}
 use borrow.Author.Tests.{eqb-true, eqb-false, ne-eqb, not-true}
 use Rattle.ground.specs.Choice.{pick}
-use Rattle.ground.specs.Refusals.{valueMissing}
+use Rattle.ground.specs.Refusals.{unknown, valueMissing}
 use Rattle.ground.proofs.Choices.{by-test}
 use Rattle.ground.proofs.Tests.{both-first, both-second}
 use Rattle.rows.specs.declared.Coded.{Coded}
@@ -36,11 +36,12 @@ use Rattle.instruction.specs.Bytes.{laidAt, laidOf}
 use Rattle.instruction.specs.Building.{noInstruction, instructionOf, makeOf, earlyOf, dirtiesOf, refusedWith, acceptedOf, finishedOf, buildOf, handed}
 use Rattle.instruction.specs.Sequences.{Present, builtWith, keptAfter, freshWith, OnlyShortWidens, NeverWidened, StaysLong, lengthened, longKept, handingBack, LongAfter}
 use Rattle.instruction.proofs.Rows.{branch-size, branch-only, operation-small}
+use Rattle.instruction.proofs.Ready.{fresh-built}
 use Rattle.instruction.proofs.Fits.{early-leaves}
-use Rattle.instruction.proofs.Choice.{choice, address-choice}
+use Rattle.instruction.proofs.Choice.{not-strange, choice, address-choice}
 use Rattle.instruction.proofs.Formed.{branch-form}
 use Rattle.instruction.proofs.Kept.{plain, MayWiden, Kept, steady, free, long, chosen-long, made-lasts}
-use Rattle.instruction.proofs.AsFresh.{handed-out, unlawful-early, fresh-lawful, fresh-unlawful}
+use Rattle.instruction.proofs.AsFresh.{handed-out}
 
 -- ---- it stays so
 pub stays-long : StaysLong
@@ -54,8 +55,8 @@ stays-long i p w =
     (λ e. let left = early-leaves i v (eqb-true (earlyOf i v) 0 e) in
     by-test P (eqb (c .refusal) 0)
     (λ z. choice i v (p .dirty) (p .address) Q (λ n t y. absurd (omega arith)) (λ _ _ _ _. w) (λ _ _ _ _. refl)
-    (λ _. address-choice i v (p .dirty) Q (λ _ _ _. w) (λ y. absurd (omega arith)) (λ _ _ _ _ y. absurd (omega arith)))
-    (left .known) (left .small) (eqb-true (c .refusal) 0 z))
+    (λ _. address-choice i v (p .dirty) Q (λ _ _ _ _. w) (λ y. absurd (omega arith)) (λ _ _ _ _ y. absurd (omega arith)))
+    (not-strange (i .operand) (left .known)) (left .small) (eqb-true (c .refusal) 0 z))
     (λ _. w))
     (λ _. w)
 
@@ -119,10 +120,11 @@ laid-alike operation a address = go (codeOf operation relative)
 -- 1, 2 and 3 of a branch
 early-branch :
     (o : Operand) (widened : Bool) (v : Values) →
-    recognised o ≡ true → hasFormOf (o .operation) relative ≡ true → lawful v ≡ true →
-    earlyOf (record { operand = o; form = relative; trial = false; widened = widened }) v ≡ pick (needsValue (o .mode) relative && not (v .given)) valueMissing 0
+    recognised o ≡ true → hasFormOf (o .operation) relative ≡ true →
+    earlyOf (record { operand = o; form = relative; trial = false; widened = widened }) v
+    ≡ pick (lawful v) (pick (needsValue (o .mode) relative && not (v .given)) valueMissing 0) unknown
 unfolding earlyOf sound lacks strays pick
-early-branch o widened v known has right = rw (known, has, right)
+early-branch o widened v known has = rw (known, has)
 
 module _ (o : Operand) (known : recognised o ≡ true) (b : MayWiden o) where
   long-size : numberSizeOf (longOf (o .operation)) relative ≡ 2
@@ -142,10 +144,6 @@ module _ (o : Operand) (known : recognised o ≡ true) (b : MayWiden o) where
       branch-form (lengthened o)
       (record { mode = b .branch .mode; straight = b .branch .straight; rows = rw (branch-only (longOf (o .operation)) long-has, long-has) })
 
-  long-fine : (v : Values) (dirty : Bool) → lacks (lengthened o) (formOf (lengthened o) v dirty) ≡ false
-  unfolding lacks strays
-  long-fine v dirty = rw (long-formed v dirty, long-has)
-
   -- the long branch, made
   abbrev fresh : Instruction
   fresh = plain (lengthened o) relative
@@ -154,10 +152,10 @@ module _ (o : Operand) (known : recognised o ≡ true) (b : MayWiden o) where
   unfolding chooseOf branchOf pick
   fresh-chosen v dirty address = rw long-size
 
-  fresh-built : (p : Present) → lawful (p .values) ≡ true → freshWith (lengthened o) p ≡ handed (builtWith fresh p)
+  long-made : (p : Present) → freshWith (lengthened o) p ≡ handed (builtWith fresh p)
   unfolding instructionOf
-  fresh-built p q =
-      fresh-lawful (lengthened o) long-known long-fine p q
+  long-made p =
+      fresh-built (record { operand = lengthened o; dirty = p .dirty; values = p .values }) (p .address)
       ∙ ap (λ (f : ℕ). handed (builtWith (instructionOf (lengthened o) f) p)) (long-formed (p .values) (p .dirty))
       ∙ rw (eqb-true (o .mode) modeExtended (b .branch .mode))
 
@@ -173,24 +171,18 @@ module _ (o : Operand) (known : recognised o ≡ true) (b : MayWiden o) where
 
   long-answers : (p : Present) → builtWith (longKept o) p ≡ handingBack (longKept o) (freshWith (lengthened o) p)
   unfolding buildOf finishedOf longBranch pick
-  long-answers p = go (lawful v) refl
-    where
-      v : Values
-      v = p .values
-
-      go : (t : Bool) → lawful v ≡ t → builtWith (longKept o) p ≡ handingBack (longKept o) (freshWith (lengthened o) p)
-      go false q = rw (fresh-unlawful (lengthened o) long-known long-fine p q, unlawful-early (longKept o) v q)
-      go true q =
-          let n = pick (needsValue (o .mode) relative && not (v .given)) valueMissing 0 in
-          rw (
-            fresh-built p q,
-            handed-out fresh v (p .dirty) (p .address),
-            chosen-long o b v (p .dirty) (p .address),
-            fresh-chosen v (p .dirty) (p .address),
-            early-branch o true v known (has-relative o b) q,
-            early-branch (lengthened o) false v long-known long-has q,
-          )
-          (answers-alike n v (p .address) (eqb n 0))
+  long-answers p =
+      let v = p .values in
+      let n = pick (lawful v) (pick (needsValue (o .mode) relative && not (v .given)) valueMissing 0) unknown in
+      rw (
+        long-made p,
+        handed-out fresh v (p .dirty) (p .address),
+        chosen-long o b v (p .dirty) (p .address),
+        fresh-chosen v (p .dirty) (p .address),
+        early-branch o true v known (has-relative o b),
+        early-branch (lengthened o) false v long-known long-has,
+      )
+      (answers-alike n v (p .address) (eqb n 0))
 
 pub long-after : LongAfter
 long-after r ps p z w =

@@ -1,21 +1,26 @@
--- What a record makes is sound with the record's values, and its row has its form: a build that comes at once needs no second look at 1 and 2.
+-- What a record makes is sound with the record's values, and its row has its form; and a fresh build is the build of the form that the record asks for, since what
+-- making refuses a build refuses alike.
 -- Assumes nothing.
 use mathlib.Core.Path.{_≡_, refl, sym, ap, _∙_}
-use mathlib.Core.Bool.{true, false, not, _&&_}
+use mathlib.Core.Bool.{Bool, true, false, not, _&&_}
+use lib.Dec.{ltb}
 use Prim.Native.Nat.{ℕ, _<_}
 use native.Mathlib.Omega.{arith}
-use borrow.Author.Tests.{lt-ltb, not-false}
-use Rattle.ground.proofs.Choices.{by-test}
+use borrow.Author.Tests.{lt-ltb, ne-eqb, not-false}
+use Rattle.ground.specs.Choice.{pick}
+use Rattle.ground.specs.Refusals.{unknown, noSuchMode, valueMissing}
+use Rattle.ground.proofs.Choices.{by-test, by-pick}
 use Rattle.ground.proofs.Tests.{both-first, both-second, neither-left}
 use Rattle.rows.specs.Lookup.{hasFormOf}
 use Rattle.rows.proofs.Codes.{form-small}
 use Rattle.instruction.specs.declared.Operand.{Operand}
+use Rattle.instruction.specs.declared.Values.{Values}
 use Rattle.instruction.specs.declared.Record.{Record}
 use Rattle.instruction.specs.declared.Instruction.{Instruction}
 use Rattle.instruction.specs.declared.Made.{Made}
 use Rattle.instruction.specs.Records.{recognised, lawful, sound}
-use Rattle.instruction.specs.Forms.{formOf, strays, lacks}
-use Rattle.instruction.specs.Building.{instructionOf, madeAs, makeOf}
+use Rattle.instruction.specs.Forms.{extendedForm, registerForm, formOf, strays, lacks, needsValue}
+use Rattle.instruction.specs.Building.{noInstruction, instructionOf, madeAs, makeOf, earlyOf, refusedWith, buildOf, handed, freshFrom, freshOf}
 
 -- a form that is not lacking is one of seven
 pub lacking-none : (o : Operand) (form : ℕ) → lacks o form ≡ false → form < 7
@@ -71,3 +76,50 @@ made-ready r i e =
     let m = make-makes r (ap (λ (x : Made). x .refusal) e) in
     let ei : makeOf r .instruction ≡ i = ap (λ (x : Made). x .instruction) e in
     (rw (← ei) (m .right), rw (← ei) (m .has))
+
+-- ---- a fresh build
+form-below : (o : Operand) (v : Values) (dirty : Bool) → ltb (formOf o v dirty) 7 ≡ true
+unfolding formOf registerForm extendedForm
+form-below o v dirty =
+    let P : ℕ → Type 0 = λ f. ltb f 7 ≡ true in
+    by-pick P _ (by-pick P _ refl refl)
+    (by-pick P _ (by-pick P _ refl (by-pick P _ refl (by-pick P _ refl refl))) (by-pick P _ refl (by-pick P _ refl (by-pick P _ refl refl))))
+
+early-made :
+    (o : Operand) (v : Values) (dirty : Bool) →
+    earlyOf (instructionOf o (formOf o v dirty)) v
+    ≡ pick (recognised o && lawful v)
+    (pick (lacks o (formOf o v dirty)) noSuchMode (pick (needsValue (o .mode) (formOf o v dirty) && not (v .given)) valueMissing 0))
+    unknown
+unfolding earlyOf sound instructionOf
+early-made o v dirty = rw (form-below o v dirty)
+
+early-handed :
+    (i : Instruction) (v : Values) (dirty : Bool) (address n : ℕ) →
+    (n ≡ 0 → ⊥) →
+    earlyOf i v ≡ n →
+    handed (buildOf i v dirty address) ≡ refusedWith noInstruction n
+unfolding handed buildOf pick
+early-handed i v dirty address n h e = rw (e, ne-eqb n 0 h) (rw (ne-eqb n 0 h))
+
+pub fresh-built :
+    (r : Record) (address : ℕ) →
+    freshOf r address ≡ handed (buildOf (instructionOf (r .operand) (formOf (r .operand) (r .values) (r .dirty))) (r .values) (r .dirty) address)
+unfolding freshOf freshFrom makeOf madeAs pick
+fresh-built r address = go (recognised o && lawful v) refl (lacks o form) refl
+  where
+    o : Operand
+    o = r .operand
+
+    v : Values
+    v = r .values
+
+    form : ℕ
+    form = formOf o v (r .dirty)
+
+    go :
+        (a : Bool) → (recognised o && lawful v) ≡ a → (b : Bool) → lacks o form ≡ b →
+        freshOf r address ≡ handed (buildOf (instructionOf o form) v (r .dirty) address)
+    go true p false q = rw (p, q)
+    go true p true q = rw (p, q) (sym (early-handed (instructionOf o form) v (r .dirty) address noSuchMode (λ z. omega arith) (early-made o v (r .dirty) ∙ rw (p, q))))
+    go false p b q = rw p (sym (early-handed (instructionOf o form) v (r .dirty) address unknown (λ z. omega arith) (early-made o v (r .dirty) ∙ rw p)))

@@ -25,7 +25,7 @@ use Rattle.instruction.specs.Choosing.{longBranch, chooseOf}
 use Rattle.instruction.specs.Building.{noValues, madeAs, makeOf, operandRefusal, earlyOf, acceptedOf, finishedOf, buildOf, handed, freshFrom, freshOf}
 use Rattle.instruction.proofs.Before.{make-refusal}
 use Rattle.instruction.proofs.Ready.{lacking-none, made-ready}
-use Rattle.instruction.proofs.Choice.{choice, address-choice}
+use Rattle.instruction.proofs.Choice.{not-strange, choice, address-choice}
 
 -- no refusal, or one of 3 to 8
 abbrev pub Late : ℕ → Type 0
@@ -38,8 +38,8 @@ module _ (i : Instruction) (v : Values) (fine : sound i v ≡ true) (has : lacks
   choose-late dirty address =
       let P : Chosen → Type 0 = λ c. Late (c .refusal) in
       choice i v dirty address P (λ n t. inr (omega arith)) (λ _ _ _. inl refl) (λ _ _ _. inl refl)
-      (λ _. address-choice i v dirty P (λ _ _. inl refl) (inr (omega arith)) (λ _ _ _ _. inr (omega arith)))
-      (both-first (recognised (i .operand)) (ltb (i .form) 7 && lawful v) fine) (lacking-none (i .operand) (i .form) has)
+      (λ _. address-choice i v dirty P (λ _ _ _. inl refl) (inr (omega arith)) (λ _ _ _ _. inr (omega arith)))
+      (not-strange (i .operand) (both-first (recognised (i .operand)) (ltb (i .form) 7 && lawful v) fine)) (lacking-none (i .operand) (i .form) has)
 
   early-late : Late (earlyOf i v)
   unfolding earlyOf pick

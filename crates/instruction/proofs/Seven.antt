@@ -23,7 +23,7 @@ use Rattle.instruction.specs.Building.{earlyOf, acceptedOf, finishedOf, 
 use Rattle.instruction.specs.Sequences.{Present, builtWith, OutOfReach, SevenDirect}
 use Rattle.instruction.proofs.Tests.{not-third}
 use Rattle.instruction.proofs.Fits.{early-leaves}
-use Rattle.instruction.proofs.Choice.{choice, address-choice}
+use Rattle.instruction.proofs.Choice.{not-strange, choice, address-choice}
 
 -- 1 to 3 come first
 early-small : (i : Instruction) (v : Values) → earlyOf i v ≤ valueMissing
@@ -47,7 +47,7 @@ seven-there i p =
     let left = early-leaves i v passed in
     by-pick P (eqb (c .refusal) 0) (λ z. absurd (omega arith))
     (choice i v (p .dirty) (p .address) Q (λ n t z. absurd (t .1 .1 z)) (λ _ _ _ z. absurd (omega arith)) (λ _ _ _ z. absurd (omega arith))
-    (λ _. address-choice i v (p .dirty) Q (λ _ _ z. absurd (omega arith)) (λ z. absurd (omega arith))
+    (λ _. address-choice i v (p .dirty) Q (λ _ _ _ z. absurd (omega arith)) (λ z. absurd (omega arith))
     (λ m f b u _. record {
       passed = passed;
       mode = eqb-true (i .operand .mode) modeDirect m;
@@ -55,7 +55,7 @@ seven-there i p =
       unmarked = u;
       beyond = b;
     }))
-    (left .known) (left .small)))
+    (not-strange (i .operand) (left .known)) (left .small)))
     (λ _ z. absurd (omega (arith, z, early-small i v)))
 
 -- what Direct does not reach does not become Direct

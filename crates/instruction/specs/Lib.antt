@@ -4,4 +4,5 @@ pub mod Forms
 pub mod Choosing
 pub mod Bytes
 pub mod Building
+pub mod Quick
 pub mod Sequences

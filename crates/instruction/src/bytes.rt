@@ -8,7 +8,8 @@ use rows::Coded;
 ghost use mathlib.Core.Path.{_≡_};
 ghost use Prim.Native.Nat.{_≤_};
 ghost use Rattle.postbytes.specs.Writing.{alone};
-ghost use Rattle.instruction.specs.Bytes.{numberBytes, operandBytes, codeSize, behindCode, laidOf};
+ghost use Rattle.rows.specs.Lookup.{isCode};
+ghost use Rattle.instruction.specs.Bytes.{numberBytes, operandBytes, codeSize, behindCode, laidAt};
 
 fn number(size: u8, n: u16) -> Encoded
     ensures { λ r. ⌜ r ≡ numberBytes size n ⌝ }
@@ -71,6 +72,16 @@ fn code_size(page: u8) -> u8
     if page == 0 { 1 } else { 2 }
 }
 
+pub(crate) fn is_code(coded: Coded) -> bool
+    ensures { λ r. ⌜ r ≡ isCode coded ⌝ }
+{
+    match coded {
+        Coded::Code { page: _, code: _ } => true,
+        Coded::Unknown => false,
+        Coded::Missing => false,
+    }
+}
+
 fn behind_code(page: u8, code: u8, e: Encoded) -> Laid
     requires { ⌜ e .length ≤ 3 ⌝ }
     ensures { λ r. ⌜ r ≡ behindCode page code e ⌝ }
@@ -88,10 +99,10 @@ fn behind_code(page: u8, code: u8, e: Encoded) -> Laid
     }
 }
 
-pub(crate) fn lay(c: Chosen, address: u16) -> Laid
-    ensures { λ r. ⌜ r ≡ laidOf c address ⌝ }
+// Behind a code that was looked up.
+pub(crate) fn lay(c: Chosen, coded: Coded, address: u16) -> Laid
+    ensures { λ r. ⌜ r ≡ laidAt coded c address ⌝ }
 {
-    let coded = rows::code_of(c.operation, c.form);
     match coded {
         Coded::Code { page, code } => {
             let after = words::add(address, code_size(page) as u16);

@@ -61,7 +61,7 @@ pub(crate) fn form_for(o: Operand, v: Values, dirty: bool) -> u8
 }
 
 // A form that the parser's mode never has.
-fn is_stray(mode: u8, form: u8) -> bool
+pub(crate) fn is_stray(mode: u8, form: u8) -> bool
     ensures { λ r. ⌜ r ≡ strays mode form ⌝ }
 {
     ((form == INDEXED) & (MODE_EXTENDED < mode)) | ((form == REGISTER) & !(mode == MODE_REGISTER))

@@ -5,27 +5,29 @@ mod forms;
 pub mod names;
 mod validity;
 
+use bytes::is_code;
 use bytes::lay;
 use choosing::choose;
 use forms::form_for;
 use forms::is_lacking;
-use forms::needs_value;
 use ground::buffers::store_all;
 use ground::refusals;
 use names::*;
 use postbytes::Index;
 use postbytes::numbers::DP;
+use rows::Coded;
 use rows::forms::DIRECT;
+use validity::is_fit;
 use validity::is_lawful;
+use validity::is_missing;
 use validity::is_recognised;
 use validity::is_sound;
 use values::Value;
 ghost use mathlib.Core.Path.{_≡_};
-ghost use mathlib.Core.Bool.{true, false};
 ghost use lib.ListN.{length};
-ghost use Rattle.instruction.specs.Records.{sound};
-ghost use Rattle.instruction.specs.Forms.{lacks};
+ghost use Rattle.rows.specs.Lookup.{codeOf};
 ghost use Rattle.instruction.specs.Building.{noOperand, noInstruction, noValues, instructionOf, unmade, makeOf, operandRefusal, dirtiesOf, refusedWith, acceptedOf, buildOf, handed, freshOf, placedOf, bufferOf};
+ghost use Rattle.instruction.specs.Quick.{CodeTells, firstRefusal};
 
 // What a build does not change: the operand as the parser saw it. Any number in it may be wrong.
 pub struct Operand {
@@ -264,12 +266,13 @@ impl Instruction {
         }
     }
 
-    // Takes on what a build settled, and hands it back beside its bytes.
-    fn accept(mut self, c: Chosen, address: u16) -> Built
+    // Takes on what a build settled, and hands it back beside its bytes, which stand behind the row's code.
+    fn accept(mut self, c: Chosen, coded: Coded, address: u16) -> Built
+        requires { ⌜ coded ≡ codeOf (c .operation) (c .form) ⌝ }
         ensures { λ r. ⌜ r ≡ acceptedOf self c address ⌝ }
     {
         let o = self.operand;
-        let laid = lay(c, address);
+        let laid = lay(c, coded, address);
         let bytes = laid.bytes;
         self.form = c.form;
         self.trial = c.trial;
@@ -283,21 +286,28 @@ impl Instruction {
         }
     }
 
-    // A build once 1 and 2 are ruled out, as they are for an instruction that was just made: 3, then what choosing refuses.
-    fn finish(mut self, v: Values, dirty: bool, address: u16) -> Built
-        requires { ⌜ (sound self v ≡ true) × (lacks (self .operand) (self .form) ≡ false) ⌝ }
-        ensures { λ r. ⌜ r ≡ buildOf self v dirty address ⌝ }
+    // The first refusal in 01's order, 0 where there is none. A row whose code was found is known and has the form, so that it is asked for 1 and 2 only if
+    // something is wrong.
+    fn first_refusal(self, v: Values, c: Chosen, coded: Coded) -> u8
+        requires { ⌜ CodeTells self v c coded ⌝ }
+        ensures { λ r. ⌜ r ≡ firstRefusal self v c ⌝ }
     {
         let o = self.operand;
-        let missing = needs_value(o.mode, self.form) & !v.given;
-        if missing {
-            return refused(self, refusals::VALUE_MISSING);
+        let fine = is_fit(self, v) & (is_code(coded) & (c.refusal == 0));
+        if fine {
+            return 0;
         }
-        let c = choose(self, v, dirty, address);
-        if c.refusal != 0 {
-            return refused(self, c.refusal);
+        let unsound = !is_sound(self, v);
+        if unsound {
+            return refusals::UNKNOWN;
         }
-        self.accept(c, address)
+        if is_lacking(o, self.form) {
+            return refusals::NO_SUCH_MODE;
+        }
+        if is_missing(self, v) {
+            return refusals::VALUE_MISSING;
+        }
+        c.refusal
     }
 
     // The instruction is taken by value and handed back, with its new form, trial mark and widening beside its bytes. A refusal hands it back
@@ -305,15 +315,13 @@ impl Instruction {
     pub fn build(mut self, v: Values, dirty: bool, address: u16) -> Built
         ensures { λ r. ⌜ r ≡ buildOf self v dirty address ⌝ }
     {
-        let o = self.operand;
-        let unsound = !is_sound(self, v);
-        if unsound {
-            return refused(self, refusals::UNKNOWN);
+        let c = choose(self, v, dirty, address);
+        let coded = rows::code_of(c.operation, c.form);
+        let n = self.first_refusal(v, c, coded);
+        if n != 0 {
+            return refused(self, n);
         }
-        if is_lacking(o, self.form) {
-            return refused(self, refusals::NO_SUCH_MODE);
-        }
-        self.finish(v, dirty, address)
+        self.accept(c, coded, address)
     }
 }
 
@@ -354,16 +362,12 @@ fn handed(built: Built) -> Built
     built
 }
 
-// A fresh instruction, made and built from one record. What it is made of is not tested again.
+// A fresh instruction, made and built from one record. What making refuses, the build refuses alike.
 pub fn assemble(r: Record, address: u16) -> Built
     ensures { λ b. ⌜ b ≡ freshOf r address ⌝ }
 {
-    let asked = ask(r);
-    if asked.refusal != 0 {
-        return refused(no_instruction(), asked.refusal);
-    }
     let o = r.operand;
     let v = r.values;
-    let i = instruction_of(o, asked.form);
-    handed(i.finish(v, r.dirty, address))
+    let i = instruction_of(o, form_for(o, v, r.dirty));
+    handed(i.build(v, r.dirty, address))
 }

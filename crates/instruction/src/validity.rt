@@ -1,11 +1,14 @@
-// Refusal 1: which numbers of a record are known, and which pairs of values are lawful.
+// Refusals 1 and 3: which numbers of a record are known, which pairs of values are lawful, and what misses its value.
 use crate::Instruction;
 use crate::Operand;
 use crate::Values;
+use crate::forms::is_stray;
+use crate::forms::needs_value;
 use crate::names::MODE_INC_DEC;
 use postbytes::lists;
 ghost use mathlib.Core.Path.{_≡_};
 ghost use Rattle.instruction.specs.Records.{stepped, recognised, agreeing, lawful, sound};
+ghost use Rattle.instruction.specs.Quick.{regular, misses, fit};
 
 fn is_stepped(o: Operand) -> bool
     ensures { λ r. ⌜ r ≡ stepped o ⌝ }
@@ -13,12 +16,18 @@ fn is_stepped(o: Operand) -> bool
     (o.step <= 4) & (!(o.mode == MODE_INC_DEC) | (0 < o.step))
 }
 
+// What 1 asks of an operand beside its operation.
+fn is_regular(o: Operand) -> bool
+    ensures { λ r. ⌜ r ≡ regular o ⌝ }
+{
+    let registers = o.registers;
+    (o.mode < 8) & (!lists::strange(registers, o.count) & is_stepped(o))
+}
+
 pub(crate) fn is_recognised(o: Operand) -> bool
     ensures { λ r. ⌜ r ≡ recognised o ⌝ }
 {
-    let registers = o.registers;
-    rows::known(o.operation)
-        & ((o.mode < 8) & (!lists::strange(registers, o.count) & is_stepped(o)))
+    rows::known(o.operation) & is_regular(o)
 }
 
 // The two evaluations agree as far as the narrower of them goes.
@@ -47,4 +56,20 @@ pub(crate) fn is_sound(i: Instruction, v: Values) -> bool
 {
     let o = i.operand;
     is_recognised(o) & ((i.form < 7) & is_lawful(v))
+}
+
+pub(crate) fn is_missing(i: Instruction, v: Values) -> bool
+    ensures { λ r. ⌜ r ≡ misses i v ⌝ }
+{
+    let o = i.operand;
+    needs_value(o.mode, i.form) & !v.given
+}
+
+// All that 1, 2 and 3 ask but for what a row tells, that the operation is known and has the form.
+pub(crate) fn is_fit(i: Instruction, v: Values) -> bool
+    ensures { λ r. ⌜ r ≡ fit i v ⌝ }
+{
+    let o = i.operand;
+    is_regular(o)
+        & ((i.form < 7) & (is_lawful(v) & (!is_stray(o.mode, i.form) & !is_missing(i, v))))
 }

@@ -1,54 +1,58 @@
 -- `instruction::Instruction::build` meets its contract.
 -- Assumes nothing.
-use mathlib.Core.Path.{sym, _∙_}
+use mathlib.Core.Path.{_≡_, sym, ap, _∙_}
+use Prim.Native.Nat.{ℕ}
+use native.Mathlib.Omega.{arith}
 use borrow.Author.Needs.{needs}
-use borrow.Author.Tests.{not-true, not-false}
-use Rattle.ground.specs.Choice.{pick}
-use Rattle.instruction.specs.Building.{earlyOf, buildOf}
+use Rattle.instruction.specs.declared.Chosen.{Chosen}
+use Rattle.instruction.specs.Building.{refusedWith, acceptedOf}
+use Rattle.instruction.specs.Quick.{firstRefusal}
+use Rattle.instruction.proofs.Quick.{code-tells, none-first, some-first}
 use Rattle.instruction.proofs.Instruction.build.Statement.{statement}
 use Rattle.instruction.proofs.Instruction.build.Tie as tie
 
-is-sound-requires : tie.Need-is-sound-requires
-is-sound-requires c κs = search needs
+choose-requires : tie.Need-choose-requires
+choose-requires c κs = search needs
+
+code-of-requires : tie.Need-code-of-requires
+code-of-requires c κs = search needs
+
+first-refusal-requires : tie.Need-first-refusal-requires
+first-refusal-requires c κs =
+    let a = c .before .before .args in
+    code-tells (a .self) (a .v) (a .dirty) (a .address) _ _ (omega arith) (c .before .choose .ensures) (c .code-of .ensures)
 
 refused-requires : tie.Need-refused-requires
 refused-requires c κs = search needs
 
 returns : tie.Need-returns
-unfolding buildOf earlyOf pick
 returns c =
-    let s = c .before .before .is-sound in
-    rw (← s .ensures, not-true (s .result) (c .before .if1 .taken)) (c .refused .ensures)
+    let a = c .before .before .before .before .before .args in
+    let first = c .before .before .first-refusal .ensures ∙ ap (firstRefusal (a .self) (a .v)) (c .before .before .before .before .choose .ensures) in
+    c .refused .ensures
+    ∙ ap (λ (n : ℕ). refusedWith (a .self) n) first
+    ∙ sym (some-first (a .self) (a .v) (a .dirty) (a .address) (λ z. c .before .if1 .taken (first ∙ z)))
 
-is-lacking-requires : tie.Need-is-lacking-requires
-is-lacking-requires c κs = search needs
-
-refused-requires-2 : tie.Need-refused-requires-2
-refused-requires-2 c κs = search needs
+accept-requires : tie.Need-accept-requires
+accept-requires c κs = c .before .before .code-of .ensures
 
 returns-2 : tie.Need-returns-2
-unfolding buildOf earlyOf pick
 returns-2 c =
-    let s = c .before .before .before .before .is-sound in
-    rw (← s .ensures, not-false (s .result) (c .before .before .before .if1 .left), ← c .before .before .is-lacking .ensures, c .before .if2 .taken) (c .refused2 .ensures)
-
-finish-requires : tie.Need-finish-requires
-finish-requires c κs =
-    let s = c .before .before .before .is-sound in
-    (sym (s .ensures) ∙ not-false (s .result) (c .before .before .if1 .left), sym (c .before .is-lacking .ensures) ∙ c .if2 .left)
-
-returns-3 : tie.Need-returns-3
-returns-3 c = c .finish .ensures
+    let a = c .before .before .before .before .before .args in
+    let chosen = c .before .before .before .before .choose .ensures in
+    let first = c .before .before .first-refusal .ensures ∙ ap (firstRefusal (a .self) (a .v)) chosen in
+    c .accept .ensures
+    ∙ ap (λ (k : Chosen). acceptedOf (a .self) k (a .address)) chosen
+    ∙ sym (none-first (a .self) (a .v) (a .dirty) (a .address) (sym first ∙ c .before .if1 .left))
 
 pub build-spec : {M : Type 1} → statement M
 build-spec =
     tie.close
     (tie.spec
-    is-sound-requires
+    choose-requires
+    code-of-requires
+    first-refusal-requires
     refused-requires
     returns
-    is-lacking-requires
-    refused-requires-2
-    returns-2
-    finish-requires
-    returns-3)
+    accept-requires
+    returns-2)

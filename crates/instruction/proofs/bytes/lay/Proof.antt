@@ -1,13 +1,10 @@
 -- `instruction::bytes::lay` meets its contract.
 -- Assumes nothing.
 use borrow.Author.Needs.{needs}
-use Rattle.instruction.specs.Bytes.{laidOf, laidAt}
+use Rattle.instruction.specs.Bytes.{laidAt}
 use Rattle.instruction.proofs.Padded.{operand-short}
 use Rattle.instruction.proofs.bytes.lay.Statement.{statement}
 use Rattle.instruction.proofs.bytes.lay.Tie as tie
-
-code-of-requires : tie.Need-code-of-requires
-code-of-requires c κs = search needs
 
 enum-known-coded : tie.Need-enum-known-coded
 enum-known-coded c = search needs
@@ -26,7 +23,7 @@ operand-requires c κs = search needs
 
 behind-code-requires : tie.Need-behind-code-requires
 behind-code-requires c κs =
-    let a = c .before .before .before .before .before .before .before .args .c in
+    let a = c .before .before .before .before .before .before .args .c in
     rw (c .operand .ensures) (operand-short (a .operation) (a .form) (a .argument) (c .before .add .result))
 
 enum-told : tie.Need-enum-told
@@ -36,22 +33,21 @@ enum-told-2 : tie.Need-enum-told-2
 enum-told-2 c = search needs
 
 returns : tie.Need-returns
-unfolding laidOf laidAt
-returns c = rw (← c .before .before .before .before .before .before .before .code-of .ensures, c .before .before .before .before .before .coded .given .1) (cc)
+unfolding laidAt
+returns c = rw (c .before .before .before .before .before .coded .given .1) (cc)
 
 returns-2 : tie.Need-returns-2
-unfolding laidOf laidAt
-returns-2 c = rw (← c .before .before .code-of .ensures, c .enum-told .given .1)
+unfolding laidAt
+returns-2 c = rw (c .enum-told .given .1)
 
 returns-3 : tie.Need-returns-3
-unfolding laidOf laidAt
-returns-3 c = rw (← c .before .before .code-of .ensures, c .enum-told2 .given .1)
+unfolding laidAt
+returns-3 c = rw (c .enum-told2 .given .1)
 
 pub lay-spec : {M : Type 1} → statement M
 lay-spec =
     tie.close
     (tie.spec
-    code-of-requires
     enum-known-coded
     code-size-requires
     cast-add

@@ -1,0 +1,37 @@
+-- What a build asks first, so that it looks a row up once. Nothing here has to be believed: proofs/Quick.antt shows that it comes to what Building.antt defines.
+use mathlib.Core.Path.{_≡_}
+use mathlib.Core.Bool.{Bool, true, _&&_, not}
+use Prim.Native.Nat.{ℕ}
+use lib.Dec.{eqb, ltb}
+use Rattle.ground.specs.Choice.{pick}
+use Rattle.rows.specs.declared.Coded.{Coded}
+use Rattle.rows.specs.Lookup.{isCode, hasFormOf}
+use Rattle.postbytes.specs.Lists.{strangeList}
+use Rattle.instruction.specs.declared.Operand.{Operand}
+use Rattle.instruction.specs.declared.Values.{Values}
+use Rattle.instruction.specs.declared.Instruction.{Instruction}
+use Rattle.instruction.specs.declared.Chosen.{Chosen}
+use Rattle.instruction.specs.Records.{stepped, lawful}
+use Rattle.instruction.specs.Forms.{strays, needsValue}
+use Rattle.instruction.specs.Building.{earlyOf}
+
+-- what 1 asks of an operand beside its operation
+unfoldable pub regular : Operand → Bool
+regular o = ltb (o .mode) 8 && (not (strangeList (o .registers) (o .count)) && stepped o)
+
+-- "required value missing"
+unfoldable pub misses : Instruction → Values → Bool
+misses i v = needsValue (i .operand .mode) (i .form) && not (v .given)
+
+-- all that 1, 2 and 3 ask but for what a row tells, that the operation is known and has the form
+unfoldable pub fit : Instruction → Values → Bool
+fit i v =
+    regular (i .operand) && (ltb (i .form) 7 && (lawful v && (not (strays (i .operand .mode) (i .form)) && not (misses i v))))
+
+-- the code of what was chosen tells that the instruction's row has its form
+abbrev pub CodeTells : Instruction → Values → Chosen → Coded → Type 0
+CodeTells i v c coded = fit i v ≡ true → isCode coded ≡ true → c .refusal ≡ 0 → hasFormOf (i .operand .operation) (i .form) ≡ true
+
+-- 1, 2 and 3, then what choosing refuses; 0 is none of them
+unfoldable pub firstRefusal : Instruction → Values → Chosen → ℕ
+firstRefusal i v c = pick (eqb (earlyOf i v) 0) (c .refusal) (earlyOf i v)
