@@ -1,11 +1,10 @@
+-- `instruction::choosing::anew_as` meets its contract.
+-- Assumes nothing.
 use mathlib.Core.Path.{refl}
 use Rattle.instruction.specs.Choosing.{anewAs}
 use Rattle.instruction.proofs.choosing.anew_as.Statement.{statement}
 use Rattle.instruction.proofs.choosing.anew_as.Tie as tie
-use Rattle.instruction.proofs.choosing.anew_as.Reads as reads
-use Rattle.instruction.proofs.choosing.anew_as.Lts as lts
 
--- src/choosing.rt:131:1
 returns : tie.Need-returns
 unfolding anewAs
 returns c = refl
