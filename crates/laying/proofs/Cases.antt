@@ -15,7 +15,7 @@ use Rattle.postbytes.specs.Writing.{marked, sizedOf, constantOf, offsetOf, rela
 use Rattle.instruction.specs.Names.{modeOffset, modePcRelative, modeIncDec, modeExtended, modeInherent}
 use Rattle.instruction.specs.Records.{stepped, recognised, narrower, agreeing, lawful, sound}
 use Rattle.instruction.specs.Forms.{onPage, becomesDirect, extendedForm, registerForm, formOf, strays, lacks, needsValue}
-use Rattle.instruction.specs.Choosing.{inherentOf, addressOf, longBranch, branchOf, accumulatorIndex, offsetValue, offsetIndex, targetIndex, stepIndex, indexOf, chooseOf}
+use Rattle.instruction.specs.Choosing.{inherentOf, anewAs, anewOf, addressOf, longBranch, branchOf, accumulatorIndex, offsetValue, offsetIndex, targetIndex, stepIndex, indexOf, chooseOf}
 use Rattle.instruction.specs.Bytes.{numberBytes, operandBytes, codeSize, behindCode, laidAt, laidOf}
 use Rattle.instruction.specs.Building.{instructionOf, madeAs, makeOf, earlyOf, dirtiesOf, acceptedOf, finishedOf, buildOf, handed, freshFrom, freshOf}
 use Rattle.entries.specs.Entries.{byteIn, isFlag, flagIn, flaggedIn, registersIn, fieldsIn, toldIn, valueIn, valuesIn, allFlagged, entryOf}
@@ -171,5 +171,5 @@ answered =
     ∷ []
 
 pub cases : map ask asked ≡ answered
-unfolding pick bitsOf extended validOf signExtendedOf tableOf page0 page10 page11 mergedOf placed hasFormOf knownOf codeOf isWide isLong numberAt numberSizeOf longFrom longOf anyUnknown strangeList among marked sizedOf constantOf offsetOf relativeOf stepped recognised narrower agreeing lawful sound onPage becomesDirect extendedForm registerForm formOf strays lacks needsValue inherentOf addressOf longBranch branchOf accumulatorIndex offsetValue offsetIndex targetIndex stepIndex indexOf chooseOf numberBytes operandBytes codeSize behindCode laidAt laidOf instructionOf madeAs makeOf earlyOf dirtiesOf acceptedOf finishedOf buildOf handed freshFrom freshOf byteIn isFlag flagIn flaggedIn registersIn fieldsIn toldIn valueIn valuesIn allFlagged entryOf entryAt rowsIn entriesFrom entriesOf builtAt refusalAt layFrom layOf
+unfolding pick bitsOf extended validOf signExtendedOf tableOf page0 page10 page11 mergedOf placed hasFormOf knownOf codeOf isWide isLong numberAt numberSizeOf longFrom longOf anyUnknown strangeList among marked sizedOf constantOf offsetOf relativeOf stepped recognised narrower agreeing lawful sound onPage becomesDirect extendedForm registerForm formOf strays lacks needsValue inherentOf anewAs anewOf addressOf longBranch branchOf accumulatorIndex offsetValue offsetIndex targetIndex stepIndex indexOf chooseOf numberBytes operandBytes codeSize behindCode laidAt laidOf instructionOf madeAs makeOf earlyOf dirtiesOf acceptedOf finishedOf buildOf handed freshFrom freshOf byteIn isFlag flagIn flaggedIn registersIn fieldsIn toldIn valueIn valuesIn allFlagged entryOf entryAt rowsIn entriesFrom entriesOf builtAt refusalAt layFrom layOf
 cases = refl
