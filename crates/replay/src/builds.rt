@@ -1,6 +1,6 @@
 // Builds, a line each. `>` and OPERATION MODE FLAGS STEP REGISTERS name the operand; `f` makes it fresh and builds it, `k` builds what is kept: ADDRESS
 // FLAGS UNSIGNED SIGNED and what must come of it, `-` and a refusal's number, or FORM and BYTES. `r` before a build has the number of a listed
-// difference and what the Rust answers; without it the answer is the Rust's own.
+// difference and what the Rust answers; without it the answer is the Rust's own, or the rules' where the Rust is asked no further, after a refusal.
 use crate::lines::four;
 use crate::lines::has;
 use crate::lines::one;

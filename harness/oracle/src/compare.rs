@@ -1,10 +1,10 @@
-//! The comparison at scale: the Rust, this library and the rules of document 01 on the same questions, in one run.
+//! The comparison at scale: the Rust, this library and the rules on the same questions, in one run.
 use crate::ask::Coco;
 use crate::differences::{place, NAMES};
 use crate::exhaustive;
-use crate::inputs::Sequence;
-use crate::judged::{self, alike, CHECKED};
-use crate::library;
+use crate::inputs::{Answer, Build, Operand, Sequence};
+use crate::judged::{self, alike, Judged, CHECKED};
+use crate::library::{self, Row};
 use crate::original::{text_of, Original};
 use crate::questions::{self, Chance};
 use crate::rows::Rows;
@@ -14,7 +14,7 @@ const RANDOM: usize = 3_500_000;
 const LISTS: usize = 20_000;
 const ROUNDS: usize = 2_000;
 
-/// How many answers were alike, refused by both, apart by a difference, and left over.
+/// How many answers were alike, refused by both, apart by a difference, asked of the library alone (by refusal), and left over.
 struct Tally {
     sequences: u64,
     builds: u64,
@@ -22,13 +22,20 @@ struct Tally {
     refused: u64,
     apart: Vec<u64>,
     met: Vec<u64>,
+    alone: [u64; 9],
     left: u64,
+}
+
+/// The counts that are not 0, each with its name.
+fn listed<N: std::fmt::Display>(names: impl IntoIterator<Item = N>, counts: &[u64]) -> String {
+    let all: Vec<String> = names.into_iter().zip(counts).filter(|(_, &n)| n > 0).map(|(name, n)| format!("{name} {n}")).collect();
+    all.join(", ")
 }
 
 impl Tally {
     fn new() -> Tally {
         let none = vec![0; NAMES.len()];
-        Tally { sequences: 0, builds: 0, alike: 0, refused: 0, apart: none.clone(), met: none, left: 0 }
+        Tally { sequences: 0, builds: 0, alike: 0, refused: 0, apart: none.clone(), met: none, alone: [0; 9], left: 0 }
     }
 
     fn leave(&mut self, what: String) {
@@ -38,35 +45,67 @@ impl Tally {
         }
     }
 
+    /// A build that is as it should be.
+    fn count(&mut self, j: &Judged) {
+        let Some(theirs) = &j.theirs else {
+            let refusal = if let Answer::Refused(n) = j.expected { n } else { 0 };
+            self.alone[refusal as usize] += 1;
+            return;
+        };
+        match &theirs.met {
+            Some(m) if alike(&theirs.answer, &j.expected) => self.met[place(m.name)] += 1,
+            Some(m) => self.apart[place(m.name)] += 1,
+            None if j.expected.is_refused() => self.refused += 1,
+            None => self.alike += 1,
+        }
+    }
+
     fn print(&self, what: &str) {
-        let differing: Vec<String> = NAMES.iter().zip(&self.apart).filter(|(_, &n)| n > 0).map(|(name, n)| format!("{name} {n}")).collect();
-        let meeting: Vec<String> = NAMES.iter().zip(&self.met).filter(|(_, &n)| n > 0).map(|(name, n)| format!("{name} {n}")).collect();
-        println!("{what}: {} sequences, {} builds: {} equal, {} refused by both", self.sequences, self.builds, self.alike, self.refused);
-        println!("  the Rust differs: {}", differing.join(", "));
-        println!("  a difference is met, and the two answer alike: {}", meeting.join(", "));
+        let kept = self.builds - self.sequences;
+        println!("{what}: {} sequences, {} builds, {kept} of them of a kept instruction", self.sequences, self.builds);
+        println!("  {} equal, {} refused by both", self.alike, self.refused);
+        println!("  the Rust differs: {}", listed(NAMES, &self.apart));
+        println!("  a difference is met, and the two answer alike: {}", listed(NAMES, &self.met));
+        let alone: u64 = self.alone.iter().sum();
+        println!("  {alone} builds after a refusal, or with values that the Rust cannot have there: as the rules say");
+        println!("    {} accepted; refused: {}", self.alone[0], listed(1..9, &self.alone[1..]));
         println!("  left over: {}", self.left);
     }
 }
 
+/// 02 n: "in any sequence of builds, after each accepted one, mode and bytes are those of a fresh one with the same values and page. A widened branch
+/// still stays long." A refusal is that of a fresh one too.
+fn as_fresh(o: &Operand, b: &Build, row: Row, ours: &Answer) -> bool {
+    let (fresh, answer) = library::fresh(o, b);
+    library::state(row).widened || answer == *ours && (ours.is_refused() || fresh == Some(row))
+}
+
+/// What is wrong with a build: the library does not say what the rules say, or of a kept instruction not what it says of a fresh one, or nothing
+/// explains the Rust.
+fn fault(s: &Sequence, i: usize, j: &Judged, row: Option<Row>, ours: &Answer) -> Option<String> {
+    let (o, builds) = (&s.operand, &s.builds[..=i]);
+    if *ours != j.expected || row.map(library::state) != j.kept {
+        return Some(format!("{o:?} {builds:?}: the library {ours:?} {row:?}, the rules {:?} {:?}", j.expected, j.kept));
+    }
+    if i > 0 && !as_fresh(o, &j.build, row?, ours) {
+        return Some(format!("{o:?} {builds:?}: the library {ours:?} {row:?}, but of a fresh one {:?}", library::fresh(o, &j.build)));
+    }
+    j.theirs.as_ref()?.fault.clone()
+}
+
 fn sequence(rows: &Rows, rust: &Original, s: &Sequence, tally: &mut Tally) {
-    let o = &s.operand;
     tally.sequences += 1;
-    let mut row = [0; 18];
-    for (i, j) in judged::sequence(rows, rust, s).into_iter().enumerate() {
-        let (next, ours) = if i == 0 { library::fresh(o, &j.build) } else { library::again(&row, &j.build) };
+    let mut row = None;
+    for (i, j) in judged::sequence(rows, rust, s).iter().enumerate() {
+        let (next, ours) = match row {
+            None => library::fresh(&s.operand, &j.build),
+            Some(kept) => library::again(kept, &j.build),
+        };
         row = next;
         tally.builds += 1;
-        if ours != j.expected || (!ours.is_refused() && Some(library::state(&row)) != j.kept) {
-            tally.leave(format!("{o:?} {:?}: the library {ours:?} {row:?}, the rules {:?} {:?}", j.build, j.expected, j.kept));
-        }
-        if let Some(fault) = j.fault {
-            tally.leave(fault);
-        }
-        match j.met {
-            Some(m) if alike(&j.theirs, &ours) => tally.met[place(m.name)] += 1,
-            Some(m) => tally.apart[place(m.name)] += 1,
-            None if ours.is_refused() => tally.refused += 1,
-            None => tally.alike += 1,
+        match fault(s, i, j, row, &ours) {
+            Some(what) => tally.leave(what),
+            None => tally.count(j),
         }
     }
 }

@@ -1,10 +1,11 @@
-//! Which listed difference a build meets, told from what is asked and from document 01's rules, never from what the two sides answer; and what the
-//! difference says that the Rust answers.
+//! Which listed difference a build meets, told from what is asked and from the rules, never from what the two sides answer; and what the difference
+//! says that the Rust answers.
 use crate::inputs::*;
 use crate::rows::Rows;
 use crate::rules::{self, Kept};
 
-pub const NAMES: [&str; 19] = ["none", "D1", "D2", "D3", "D4", "D5", "D6", "D7", "D8", "D9", "E1", "E2", "E3", "E4", "E5", "E6", "E7", "E8", "E19"];
+pub const NAMES: [&str; 20] =
+    ["none", "D1", "D2", "D3", "D4", "D5", "D6", "D7", "D8", "D9", "D10", "E1", "E2", "E3", "E4", "E5", "E6", "E7", "E8", "E19"];
 
 /// EXIT is no operation of document 01: it is asked for under a number that none has (E5).
 pub const EXIT: u8 = 255;
@@ -32,9 +33,10 @@ fn met(name: &'static str, rust: Other) -> Option<Met> {
     Some(Met { name, rust })
 }
 
-/// `kept` is what the rules keep before this build, nothing where the record was refused; `answer` is the rules' answer; `checked` tells that
-/// sums past 65535 panic.
-pub fn of(rows: &Rows, o: &Operand, kept: Option<Kept>, b: &Build, answer: &Answer, checked: bool) -> Option<Met> {
+/// `kept` is what the rules keep before this build, nothing where the record was refused; `builds` are those that the Rust was asked, this one the last;
+/// `answer` is the rules' answer; `checked` tells that sums past 65535 panic.
+pub fn of(rows: &Rows, o: &Operand, kept: Option<Kept>, builds: &[Build], answer: &Answer, checked: bool) -> Option<Met> {
+    let (b, before) = builds.split_last()?;
     if o.operation == EXIT {
         return met("E5", if o.mode == mode::INHERENT && b.values.is_none() { Other::Bytes(vec![0x11, 0x11]) } else { Other::Refuses });
     }
@@ -50,7 +52,22 @@ pub fn of(rows: &Rows, o: &Operand, kept: Option<Kept>, b: &Build, answer: &Answ
         form::RELATIVE => sums(checked && past_branch(rows, o, kept, b, answer)),
         form::INDEXED => indexed(rows, o, b, answer, checked),
         form::REGISTER => listed(rows, o, name, answer),
+        form::DIRECT | form::EXTENDED => forgotten(rows, o, before, b),
         _ => None,
+    }
+}
+
+/// D10: "A kept instruction made far, then built near, then far again is refused 7, because 01 follows the Rust, which forgets that nobody forced
+/// Direct." Its mark `trying_direct` goes with the first far build and never comes back. It is a private field, so it is not compared after far and
+/// near, where it differs already.
+fn forgotten(rows: &Rows, o: &Operand, before: &[Build], b: &Build) -> Option<Met> {
+    let far = |b: &Build| b.values.is_some_and(|(u, _)| b.dirty || u.number > 255);
+    let (last, earlier) = before.split_last()?;
+    let unforced = o.mode == mode::EXTENDED && !o.forced && !o.indirect && rows.has(o.operation, form::EXTENDED);
+    if unforced && earlier.iter().any(far) && !far(last) && far(b) {
+        met("D10", Other::Refuses)
+    } else {
+        None
     }
 }
 

@@ -4,7 +4,7 @@ use crate::questions::*;
 use crate::rows::Rows;
 
 /// Everything around each boundary: all 65,536 offsets, targets, addresses, places and immediates on chosen rows, all lists of up to four registers, and
-/// all sequences of three builds near and far, clean and dirty.
+/// all sequences of three builds near and far, clean and dirty, and of five on chosen rows.
 pub fn all(rows: &Rows, each: &mut dyn FnMut(&Sequence)) {
     fixed(rows, 0).iter().for_each(&mut *each);
     all_offsets(rows, each);
@@ -12,6 +12,7 @@ pub fn all(rows: &Rows, each: &mut dyn FnMut(&Sequence)) {
     all_addresses(rows, each);
     all_lists(rows, each);
     all_kept(rows, each);
+    all_kept_on(rows, each);
 }
 
 fn all_offsets(rows: &Rows, each: &mut dyn FnMut(&Sequence)) {
@@ -94,11 +95,29 @@ fn all_kept(rows: &Rows, each: &mut dyn FnMut(&Sequence)) {
             if fits(rows, operation, mode_) {
                 for forced in [false, true] {
                     let o = Operand { forced, ..operand(operation, mode_, &[]) };
-                    kept_of(&o, &[plain(0x34), wide(0x0034), wide(0x0110), wide(0x1234)], &mut sequences);
+                    kept_of(&o, 3, &[plain(0x34), wide(0x0034), wide(0x0110), wide(0x1234)], &mut sequences);
                 }
                 sequences.iter().for_each(&mut *each);
                 sequences.clear();
             }
         }
     }
+}
+
+/// Sequences of five, in which what an earlier build has spoiled shows.
+fn all_kept_on(rows: &Rows, each: &mut dyn FnMut(&Sequence)) {
+    let mut sequences = vec![];
+    for operation in numbers(rows, &["LDA", "STX", "CMPY", "JMP"]) {
+        for mode_ in [mode::EXTENDED, mode::DIRECT] {
+            for forced in [false, true] {
+                let o = Operand { forced, ..operand(operation, mode_, &[]) };
+                kept_of(&o, 5, &[plain(0x34), wide(0x1234)], &mut sequences);
+            }
+        }
+    }
+    for widening in [false, true] {
+        let o = Operand { widening, ..operand(rows.number("BRA"), mode::EXTENDED, &[]) };
+        kept_of(&o, 5, &[wide(0x0110), wide(0x0300)], &mut sequences);
+    }
+    sequences.iter().for_each(each);
 }

@@ -32,34 +32,38 @@ fn present_of(b: &Build) -> [u16; 6] {
     }
 }
 
-fn built(refusal: u8, answer: &[u16; 25]) -> (Row, Answer) {
-    let row: Row = answer[7..].try_into().unwrap();
+/// "A refusal leaves everything that was lent as it was": the answer too, and the caller goes on with the row that it has, if any.
+const UNTOUCHED: [u16; 25] = [0xAAAA; 25];
+
+fn built(refusal: u8, answer: &[u16; 25], kept: Option<Row>) -> (Option<Row>, Answer) {
     if refusal != 0 {
-        return (row, Answer::Refused(refusal));
+        assert_eq!(answer, &UNTOUCHED);
+        return (kept, Answer::Refused(refusal));
     }
+    let row: Row = answer[7..].try_into().unwrap();
     let bytes = answer[1..=answer[0] as usize].iter().map(|&b| b as u8).collect();
-    (row, Answer::Built { form: row[15] as u8, dirties: answer[6] == 1, bytes })
+    (Some(row), Answer::Built { form: row[15] as u8, dirties: answer[6] == 1, bytes })
 }
 
-pub fn fresh(o: &Operand, b: &Build) -> (Row, Answer) {
+pub fn fresh(o: &Operand, b: &Build) -> (Option<Row>, Answer) {
     let mut row = [0; 21];
     let numbers = [o.operation as u16, o.mode as u16, o.indirect as u16, o.forced as u16, o.step as u16, o.widening as u16, o.registers.len() as u16];
     row[..7].copy_from_slice(&numbers);
     o.registers.iter().take(8).enumerate().for_each(|(i, &r)| row[7 + i] = r as u16);
     row[15..].copy_from_slice(&present_of(b));
-    let mut answer = [0; 25];
+    let mut answer = UNTOUCHED;
     let refusal = unsafe { jw_assemble(row.as_ptr(), row.len(), b.address, answer.as_mut_ptr(), answer.len()) };
-    built(refusal, &answer)
+    built(refusal, &answer, None)
 }
 
-pub fn again(kept: &Row, b: &Build) -> (Row, Answer) {
+pub fn again(kept: Row, b: &Build) -> (Option<Row>, Answer) {
     let present = present_of(b);
-    let mut answer = [0; 25];
+    let mut answer = UNTOUCHED;
     let refusal = unsafe { jw_build(kept.as_ptr(), kept.len(), present.as_ptr(), present.len(), b.address, answer.as_mut_ptr(), answer.len()) };
-    built(refusal, &answer)
+    built(refusal, &answer, Some(kept))
 }
 
-pub fn state(row: &Row) -> Kept {
+pub fn state(row: Row) -> Kept {
     Kept { form: row[15] as u8, trial: row[16] == 1, widened: row[17] == 1 }
 }
 

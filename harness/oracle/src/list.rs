@@ -2,14 +2,14 @@
 use crate::ask::hex;
 use crate::differences::{place, NAMES};
 use crate::inputs::*;
-use crate::judged;
+use crate::judged::{self, Theirs};
 use crate::original::Original;
 use crate::questions;
 use crate::rows::Rows;
 use crate::tables;
 use std::fmt::Write;
 
-const LEAST_BUILDS: usize = 23_000;
+const LEAST_BUILDS: usize = 26_000;
 
 fn operand_line(o: &Operand) -> String {
     let flags = o.indirect as u8 | (o.forced as u8) << 1 | (o.widening as u8) << 2;
@@ -35,6 +35,7 @@ fn build_line(kept: bool, b: &Build, expected: &Answer) -> String {
 fn builds(rows: &Rows, rust: &Original, counts: &mut [u64]) -> String {
     let mut out = String::new();
     let mut last = String::new();
+    let (mut kept, mut alone) = (0, 0);
     for sequence in questions::fixed(rows, LEAST_BUILDS) {
         let line = operand_line(&sequence.operand);
         if line != last {
@@ -42,15 +43,25 @@ fn builds(rows: &Rows, rust: &Original, counts: &mut [u64]) -> String {
             last = line;
         }
         for (i, j) in judged::sequence(rows, rust, &sequence).into_iter().enumerate() {
-            assert_eq!(j.fault, None);
-            if let Some(m) = &j.met {
-                writeln!(out, "r{} {}", m.name, answer_of(&j.theirs)).unwrap();
+            kept += (i > 0) as u32;
+            match j.theirs {
+                Some(theirs) => rust_line(&theirs, counts, &mut out),
+                None => alone += 1,
             }
-            counts[j.met.map_or(0, |m| place(m.name))] += 1;
             writeln!(out, "{}", build_line(i > 0, &j.build, &j.expected)).unwrap();
         }
     }
+    eprintln!("builds of a kept instruction: {kept}; after a refusal, or with values that the Rust cannot have there: {alone}");
     out
+}
+
+/// What the Rust answers, where it differs by a number of the list.
+fn rust_line(theirs: &Theirs, counts: &mut [u64], out: &mut String) {
+    assert_eq!(theirs.fault, None);
+    counts[theirs.met.as_ref().map_or(0, |m| place(m.name))] += 1;
+    if let Some(m) = &theirs.met {
+        writeln!(out, "r{} {}", m.name, answer_of(&theirs.answer)).unwrap();
+    }
 }
 
 pub fn write(folder: &str) {

@@ -1,6 +1,6 @@
 //! The Rust's own answers: builds, texts of object lists, label moves, segments.
 use crate::differences::EXIT;
-use crate::inputs::{form, mode, register, Answer, Build, Operand, Sequence, Value};
+use crate::inputs::{form, mode, register, Answer, Build, Operand, Value};
 use crate::numbers::{mode_of, step_of, value_of};
 use crate::rows::Rows;
 use coco::instructions::{self, AddressingMode, Descriptor};
@@ -126,15 +126,16 @@ impl Original {
         Original { descriptors }
     }
 
-    /// The answers of a sequence, up to the first refusal.
-    pub fn sequence(&self, sequence: &Sequence) -> Vec<Answer> {
-        let o = &sequence.operand;
+    /// The answers to builds of one operand, up to the first refusal.
+    pub fn sequence(&self, o: &Operand, builds: &[Build]) -> Vec<Answer> {
+        // Said here, since a panic where the Rust is asked would pass for its answer.
+        assert!(builds.iter().all(|b| b.values.is_some() == builds[0].values.is_some()), "a value in every build, or in none");
         let Some(id) = self.descriptors[o.operation as usize] else { return vec![ANY] };
         config::set_lbr_disable(!o.widening);
         let pair = Pair::new();
         let mut kept: Option<Instruction> = None;
         let mut answers = Vec::new();
-        for b in &sequence.builds {
+        for b in builds {
             let answer = guarded(|| self.build(id, o, &pair, &mut kept, b)).unwrap_or(ANY);
             let refused = answer.is_refused();
             answers.push(answer);
@@ -156,7 +157,7 @@ impl Original {
         }
         let i = kept.as_mut().unwrap();
         if let Some(values) = b.values {
-            pair.arm(i.od.value.as_mut().expect("a value in every build, or in none"), values);
+            pair.arm(i.od.value.as_mut().unwrap(), values);
         }
         let bytes = bytes_of(i.build(b.address, pair, b.dirty)?);
         let lists = o.mode == mode::REGISTER;

@@ -56,6 +56,18 @@ fn both_narrow(n: u16) -> Pair {
     Some((value(n, 8), value(n, 8)))
 }
 
+/// A pair that 1 forbids: "the two values disagree".
+fn disagreeing(values: Pair) -> Pair {
+    let (u, s) = values.or(plain(0)).unwrap();
+    Some((u, value(s.number.wrapping_add(1), s.width)))
+}
+
+/// A pair that 1 forbids: they "exceed their width".
+fn exceeding(values: Pair) -> Pair {
+    let (u, s) = values.or(plain(0)).unwrap();
+    Some((Value { number: u.number | 0x0100, width: 8 }, s))
+}
+
 /// All pairs that a number stands in.
 fn pairs(n: u16) -> Vec<Pair> {
     let mut all: Vec<Pair> = vec![];
@@ -184,20 +196,18 @@ fn branches(rows: &Rows, out: &mut Vec<Sequence>) {
                 }
                 out.push(one(&o, build(at, false, plain(0x0005))));
             }
-            kept_of(&o, &[wide(0x0110), wide(0x0300)], out);
+            kept_of(&o, 3, &[wide(0x0110), wide(0x0300)], out);
         }
     }
 }
 
-/// Sequences of three builds of one kept instruction, with each choice of values, clean and dirty.
-pub fn kept_of(o: &Operand, values: &[Pair], out: &mut Vec<Sequence>) {
+/// All sequences of so many builds of one kept instruction, with each choice of values, clean and dirty.
+pub fn kept_of(o: &Operand, count: u32, values: &[Pair], out: &mut Vec<Sequence>) {
     let choices: Vec<Build> = values.iter().flat_map(|&v| [build(0x0100, false, v), build(0x0102, true, v)]).collect();
-    for &first in &choices {
-        for &second in &choices {
-            for &third in &choices {
-                out.push(Sequence { operand: o.clone(), builds: vec![first, second, third] });
-            }
-        }
+    let n = choices.len();
+    for code in 0..n.pow(count) {
+        let builds = (0..count).rev().map(|place| choices[code / n.pow(place) % n]).collect();
+        out.push(Sequence { operand: o.clone(), builds });
     }
 }
 
@@ -213,11 +223,56 @@ fn addresses(rows: &Rows, out: &mut Vec<Sequence>) {
                         out.push(one(&o, build(0, true, values)));
                     }
                 }
-                kept_of(&o, &[plain(0x34), wide(0x1234)], out);
+                kept_of(&o, 3, &[plain(0x34), wide(0x1234)], out);
             }
         }
         let o = Operand { forced: true, ..operand(operation, mode::DIRECT, &[]) };
-        kept_of(&o, &[plain(0x34), wide(0x34)], out);
+        kept_of(&o, 3, &[plain(0x34), wide(0x34)], out);
+    }
+}
+
+/// Builds at one place of a clean page.
+fn kept(o: &Operand, values: &[Pair]) -> Sequence {
+    Sequence { operand: o.clone(), builds: values.iter().map(|&v| build(0x0100, false, v)).collect() }
+}
+
+/// "A kept instruction made far, then built near, then far again", and on (D10).
+fn far_again(rows: &Rows, out: &mut Vec<Sequence>) {
+    let (near, far) = (plain(0x10), plain(0x1000));
+    for operation in numbers(rows, &["LDA", "STX", "CMPY", "JMP"]) {
+        let o = operand(operation, mode::EXTENDED, &[]);
+        out.push(kept(&o, &[near, far, near, far, near, near, far]));
+        out.push(kept(&o, &[far, near, far]));
+    }
+}
+
+/// Other values, most of them refused, between builds with an operand's own: a refusal leaves what is kept as it was.
+fn between(rows: &Rows, out: &mut Vec<Sequence>) {
+    let of = |name, mode_| usual(rows, rows.number(name), mode_);
+    let (near, far, ahead) = (plain(0x10), plain(0x1000), wide(0x0110));
+    let own = [
+        (of("LDA", mode::EXTENDED), near),
+        (of("LDA", mode::EXTENDED), far),
+        (Operand { forced: true, ..of("LDA", mode::EXTENDED) }, far),
+        (Operand { indirect: true, ..of("JMP", mode::EXTENDED) }, far),
+        (of("LDA", mode::DIRECT), near),
+        (Operand { forced: true, ..of("LDA", mode::DIRECT) }, near),
+        (of("LDA", mode::IMMEDIATE), near),
+        (of("LDX", mode::IMMEDIATE), far),
+        (of("NOP", mode::INHERENT), None),
+        (of("LDA", mode::OFFSET), near),
+        (of("LDA", mode::PC_RELATIVE), far),
+        (of("LDA", mode::INC_DEC), None),
+        (of("LDA", mode::REGISTER), None),
+        (of("PULS", mode::REGISTER), None),
+        (of("BRA", mode::EXTENDED), ahead),
+        (of("BRA", mode::EXTENDED), far),
+        (Operand { widening: false, ..of("BRA", mode::EXTENDED) }, ahead),
+    ];
+    for (o, values) in own {
+        for other in [None, near, far, wide(0x10), ahead, disagreeing(values), exceeding(values)] {
+            out.push(kept(&o, &[values, other, values, other, values]));
+        }
     }
 }
 
@@ -310,10 +365,30 @@ pub fn random(rows: &Rows, operations: &[u8], chance: &mut Chance) -> Sequence {
         mode::REGISTER | mode::INC_DEC | mode::INHERENT => !chance.one_in(8),
         _ => chance.one_in(16),
     };
-    let count = chance.of(&[1, 1, 2, 3]);
+    Sequence { operand: o, builds: any_builds(chance, none) }
+}
+
+/// One to six builds, all with a value or none with one, but for one of another kind between them now and then.
+fn any_builds(chance: &mut Chance, none: bool) -> Vec<Build> {
+    let count = chance.of(&[1, 1, 1, 1, 2, 2, 2, 3, 3, 4, 5, 6]);
     let at = if chance.one_in(4) { chance.of(&PLACES) } else { chance.below(65536) as u16 };
     let builds = (0..count).map(|_| build(at.wrapping_add(chance.below(4) as u16), chance.one_in(3), if none { None } else { any_pair(chance, at) }));
-    Sequence { operand: o, builds: builds.collect() }
+    let mut builds: Vec<Build> = builds.collect();
+    if count > 2 && chance.one_in(3) {
+        builds[1 + chance.below(count - 2)].values = other_pair(chance, at, none);
+    }
+    builds
+}
+
+/// What the Rust cannot be asked of an instruction that it keeps: a value where it had none, none where it had one, or a pair that 1 forbids.
+fn other_pair(chance: &mut Chance, at: u16, none: bool) -> Pair {
+    let values = any_pair(chance, at);
+    match chance.below(4) {
+        0 => disagreeing(values),
+        1 => exceeding(values),
+        _ if none => values,
+        _ => None,
+    }
 }
 
 pub fn fits(rows: &Rows, operation: u8, mode_: u8) -> bool {
@@ -351,6 +426,8 @@ pub fn fixed(rows: &Rows, least: usize) -> Vec<Sequence> {
     targets(rows, &mut out);
     branches(rows, &mut out);
     addresses(rows, &mut out);
+    far_again(rows, &mut out);
+    between(rows, &mut out);
     immediates(rows, &mut out);
     registers(rows, &mut out);
     indexed(rows, &mut out);

@@ -1,4 +1,5 @@
-//! Document 01's rules of one build, in this harness's own words. It shares nothing with the library and nothing with the Rust.
+//! Document 01's rules of one build, with those that document 02 changed, in this harness's own words. It shares nothing with the library and nothing
+//! with the Rust.
 use crate::inputs::*;
 use crate::rows::{Row, Rows};
 
@@ -11,9 +12,14 @@ pub struct Kept {
 }
 
 /// "equal modulo 256 or 65536 as the narrower width says"
-pub fn lawful((u, s): (Value, Value)) -> bool {
+fn lawful((u, s): (Value, Value)) -> bool {
     let fits = |v: Value| v.width == 16 || (v.width == 8 && v.number < 256);
     fits(u) && fits(s) && if u.width == 16 && s.width == 16 { u.number == s.number } else { u.number % 256 == s.number % 256 }
+}
+
+/// Not "the two values disagree or exceed their width".
+pub fn agree(b: &Build) -> bool {
+    b.values.is_none_or(lawful)
 }
 
 fn known(rows: &Rows, o: &Operand) -> bool {
@@ -32,7 +38,7 @@ fn near(o: &Operand, b: &Build) -> bool {
 
 /// 1, then the form that the mode asks for, then 2.
 pub fn make(rows: &Rows, o: &Operand, b: &Build) -> Result<Kept, u8> {
-    if !known(rows, o) || b.values.is_some_and(|v| !lawful(v)) {
+    if !known(rows, o) || !agree(b) {
         return Err(1);
     }
     let has = |f| rows.has(o.operation, f);
@@ -77,6 +83,9 @@ fn in_a_byte(distance: u16) -> bool {
 }
 
 fn settle(rows: &Rows, o: &Operand, kept: Kept, b: &Build) -> Result<(Kept, Vec<u8>), u8> {
+    if !agree(b) {
+        return Err(1);
+    }
     let needs = matches!(o.mode, mode::EXTENDED | mode::DIRECT | mode::IMMEDIATE | mode::PC_RELATIVE);
     if needs && b.values.is_none() {
         return Err(3);
@@ -102,25 +111,39 @@ fn settle(rows: &Rows, o: &Operand, kept: Kept, b: &Build) -> Result<(Kept, Vec<
     }
 }
 
-/// "At each build: clean, unforced, below 256, Extended or Direct: becomes Direct. Else, Direct with page dirty or value above 255: on trial it
-/// becomes Extended and the mark goes; otherwise refusal 7." "Forced Direct with a 16-bit-wide value is refused 6."
+/// The address in one byte or in two.
 fn address(rows: &Rows, o: &Operand, kept: Kept, b: &Build, u: Value) -> Result<(Kept, Vec<u8>), u8> {
-    let row = |f| rows.row(o.operation, f).unwrap();
-    let direct = |kept: Kept| (Kept { form: form::DIRECT, ..kept }, with_code(row(form::DIRECT), &[u.number as u8]));
-    let extended = |kept: Kept| (Kept { form: form::EXTENDED, ..kept }, with_code(row(form::EXTENDED), &two(u.number)));
+    let now = if o.mode == mode::DIRECT { directly(o, kept, b, u)? } else { anew(o, kept, b) };
+    let number = two(u.number);
+    let operand = if now.form == form::DIRECT { &number[1..] } else { &number[..] };
+    Ok((now, with_code(rows.row(o.operation, now.form).unwrap(), operand)))
+}
+
+/// In mode Direct, by 01: "At each build: clean, unforced, below 256, Extended or Direct: becomes Direct. Else, Direct with page dirty or value above
+/// 255: on trial it becomes Extended and the mark goes; otherwise refusal 7." "Forced Direct with a 16-bit-wide value is refused 6."
+fn directly(o: &Operand, kept: Kept, b: &Build, u: Value) -> Result<Kept, u8> {
+    let direct = Kept { form: form::DIRECT, ..kept };
     if near(o, b) {
-        return Ok(direct(kept));
+        return Ok(direct);
     }
     if kept.form == form::EXTENDED {
-        return Ok(extended(kept));
+        return Ok(kept);
     }
     if b.dirty || u.number > 255 {
-        return if kept.trial { Ok(extended(Kept { trial: false, ..kept })) } else { Err(7) };
+        return if kept.trial { Ok(Kept { form: form::EXTENDED, trial: false, ..kept }) } else { Err(7) };
     }
     if o.forced && u.width == 16 {
         return Err(6);
     }
-    Ok(direct(kept))
+    Ok(direct)
+}
+
+/// In mode Extended, by 02 n: "in any sequence of builds, after each accepted one, mode and bytes are those of a fresh one with the same values and
+/// page", and "7 only where the parser mode is Direct". So 01's rule of a fresh one is asked each time: "clean, unforced and below 256 is Direct, on
+/// trial". A near build after a far one sets the mark again.
+fn anew(o: &Operand, kept: Kept, b: &Build) -> Kept {
+    let form = if near(o, b) { form::DIRECT } else { form::EXTENDED };
+    Kept { form, trial: form == form::DIRECT, ..kept }
 }
 
 /// "Short branch outside -128..127 becomes the long branch if allowed."
