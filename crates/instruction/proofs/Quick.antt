@@ -1,13 +1,14 @@
 -- A build looks its row up once. What it chose has a code exactly if the instruction's own row has its form, so that a code that was found tells 1 and 2 of the row.
 -- Assumes nothing.
 use mathlib.Core.Path.{_≡_, refl, sym, ap, _∙_}
-use mathlib.Core.Bool.{Bool, true, false, not, _&&_}
+use mathlib.Core.Bool.{Bool, true, false, not, _&&_, _||_, and-false}
 use Prim.Native.Nat.{ℕ, _<_}
 use native.Mathlib.Omega.{arith}
 use lib.Dec.{eqb, ltb}
 use borrow.Author.Tests.{eqb-true, eqb-false, ne-eqb, ltb-true, not-true}
 use Rattle.ground.specs.Choice.{pick}
 use Rattle.ground.proofs.Tests.{both-first, both-second}
+use Rattle.values.specs.Widths.{validOf}
 use Rattle.rows.specs.declared.Coded.{Coded}
 use Rattle.rows.specs.Forms.{direct, extended, relative}
 use Rattle.rows.specs.Lookup.{mergedOf, isCode, hasFormOf, codeOf}
@@ -20,11 +21,11 @@ use Rattle.instruction.specs.declared.Operand.{Operand}
 use Rattle.instruction.specs.declared.Values.{Values}
 use Rattle.instruction.specs.declared.Instruction.{Instruction}
 use Rattle.instruction.specs.declared.Chosen.{Chosen}
-use Rattle.instruction.specs.Records.{stepped, recognised, lawful, sound}
-use Rattle.instruction.specs.Forms.{strays, lacks}
+use Rattle.instruction.specs.Records.{stepped, recognised, agreeing, lawful, sound}
+use Rattle.instruction.specs.Forms.{strays, lacks, needsValue}
 use Rattle.instruction.specs.Choosing.{longBranch, chooseOf}
 use Rattle.instruction.specs.Building.{earlyOf, refusedWith, acceptedOf, finishedOf, buildOf}
-use Rattle.instruction.specs.Quick.{regular, misses, fit, CodeTells, firstRefusal}
+use Rattle.instruction.specs.Quick.{regular, matched, misses, valued, fit, CodeTells, firstRefusal}
 use Rattle.instruction.proofs.Rows.{direct-extended}
 use Rattle.instruction.proofs.Formed.{isMemory}
 use Rattle.instruction.proofs.Choice.{choice, address-choice}
@@ -67,6 +68,28 @@ chosen-row i v dirty address small =
     (λ m. address-choice i v dirty P (λ form _ n _ h. memory-row o (i .form) m ∙ sym (memory-row o form n) ∙ h) (λ z. absurd (omega arith)) (λ _ _ _ _ z. absurd (omega arith)))
 
 -- ---- what fits
+lawful-valued : (i : Instruction) (v : Values) → valued i v ≡ true → lawful v ≡ true
+unfolding valued lawful matched pick
+lawful-valued i v = go (v .given)
+  where
+    m : Bool
+    m = validOf (v .unsigned) && (validOf (v .signed) && agreeing v)
+
+    go : (t : Bool) → pick t m (not (needsValue (i .operand .mode) (i .form))) ≡ true → (not t || m) ≡ true
+    go true h = h
+    go false h = refl
+
+present-valued : (i : Instruction) (v : Values) → valued i v ≡ true → misses i v ≡ false
+unfolding valued misses pick
+present-valued i v = go (v .given)
+  where
+    n : Bool
+    n = needsValue (i .operand .mode) (i .form)
+
+    go : (t : Bool) → pick t (matched v) (not n) ≡ true → (n && not t) ≡ false
+    go true h = and-false n
+    go false h = rw (not-true n h)
+
 record Fit (i : Instruction) (v : Values) : Type 0 where
   fields : regular (i .operand) ≡ true
   small : ltb (i .form) 7 ≡ true
@@ -78,16 +101,15 @@ fit-leaves : (i : Instruction) (v : Values) → fit i v ≡ true → Fit i v
 unfolding fit
 fit-leaves i v h =
     let s = strays (i .operand .mode) (i .form) in
-    let m = misses i v in
-    let a = both-second (regular (i .operand)) (ltb (i .form) 7 && (lawful v && (not s && not m))) h in
-    let b = both-second (ltb (i .form) 7) (lawful v && (not s && not m)) a in
-    let c = both-second (lawful v) (not s && not m) b in
+    let a = both-second (regular (i .operand)) (ltb (i .form) 7 && (valued i v && not s)) h in
+    let b = both-second (ltb (i .form) 7) (valued i v && not s) a in
+    let c = both-first (valued i v) (not s) b in
     record {
-      fields = both-first (regular (i .operand)) (ltb (i .form) 7 && (lawful v && (not s && not m))) h;
-      small = both-first (ltb (i .form) 7) (lawful v && (not s && not m)) a;
-      right = both-first (lawful v) (not s && not m) b;
-      straight = not-true s (both-first (not s) (not m) c);
-      present = not-true m (both-second (not s) (not m) c);
+      fields = both-first (regular (i .operand)) (ltb (i .form) 7 && (valued i v && not s)) h;
+      small = both-first (ltb (i .form) 7) (valued i v && not s) a;
+      right = lawful-valued i v c;
+      straight = not-true s (both-second (valued i v) (not s) b);
+      present = present-valued i v c;
     }
 
 -- the code of what is chosen tells of the instruction's row

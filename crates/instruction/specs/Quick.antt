@@ -4,6 +4,7 @@ use mathlib.Core.Bool.{Bool, true, _&&_, not}
 use Prim.Native.Nat.{ℕ}
 use lib.Dec.{eqb, ltb}
 use Rattle.ground.specs.Choice.{pick}
+use Rattle.values.specs.Widths.{validOf}
 use Rattle.rows.specs.declared.Coded.{Coded}
 use Rattle.rows.specs.Lookup.{isCode, hasFormOf}
 use Rattle.postbytes.specs.Lists.{strangeList}
@@ -11,7 +12,7 @@ use Rattle.instruction.specs.declared.Operand.{Operand}
 use Rattle.instruction.specs.declared.Values.{Values}
 use Rattle.instruction.specs.declared.Instruction.{Instruction}
 use Rattle.instruction.specs.declared.Chosen.{Chosen}
-use Rattle.instruction.specs.Records.{stepped, lawful}
+use Rattle.instruction.specs.Records.{stepped, agreeing}
 use Rattle.instruction.specs.Forms.{strays, needsValue}
 use Rattle.instruction.specs.Building.{earlyOf}
 
@@ -23,10 +24,17 @@ regular o = ltb (o .mode) 8 && (not (strangeList (o .registers) (o .count)) && s
 unfoldable pub misses : Instruction → Values → Bool
 misses i v = needsValue (i .operand .mode) (i .form) && not (v .given)
 
+-- what 1 asks of two evaluations
+unfoldable pub matched : Values → Bool
+matched v = validOf (v .unsigned) && (validOf (v .signed) && agreeing v)
+
+-- what 1 asks of the values where there are some, and 3 where there are none
+unfoldable pub valued : Instruction → Values → Bool
+valued i v = pick (v .given) (matched v) (not (needsValue (i .operand .mode) (i .form)))
+
 -- all that 1, 2 and 3 ask but for what a row tells, that the operation is known and has the form
 unfoldable pub fit : Instruction → Values → Bool
-fit i v =
-    regular (i .operand) && (ltb (i .form) 7 && (lawful v && (not (strays (i .operand .mode) (i .form)) && not (misses i v))))
+fit i v = regular (i .operand) && (ltb (i .form) 7 && (valued i v && not (strays (i .operand .mode) (i .form))))
 
 -- the code of what was chosen tells that the instruction's row has its form
 abbrev pub CodeTells : Instruction → Values → Chosen → Coded → Type 0

@@ -7,8 +7,8 @@ use crate::forms::needs_value;
 use crate::names::MODE_INC_DEC;
 use postbytes::lists;
 ghost use mathlib.Core.Path.{_≡_};
-ghost use Rattle.instruction.specs.Records.{stepped, recognised, agreeing, lawful, sound};
-ghost use Rattle.instruction.specs.Quick.{regular, misses, fit};
+ghost use Rattle.instruction.specs.Records.{stepped, recognised, lawful, sound};
+ghost use Rattle.instruction.specs.Quick.{regular, matched, misses, valued, fit};
 
 fn is_stepped(o: Operand) -> bool
     ensures { λ r. ⌜ r ≡ stepped o ⌝ }
@@ -30,9 +30,9 @@ pub(crate) fn is_recognised(o: Operand) -> bool
     rows::known(o.operation) & is_regular(o)
 }
 
-// The two evaluations agree as far as the narrower of them goes.
-fn is_agreeing(v: Values) -> bool
-    ensures { λ r. ⌜ r ≡ agreeing v ⌝ }
+// The two evaluations fit their widths, and agree as far as the narrower of them goes. Two of 16 bits fit, and need only be equal.
+fn is_matched(v: Values) -> bool
+    ensures { λ r. ⌜ r ≡ matched v ⌝ }
 {
     let u = v.unsigned;
     let s = v.signed;
@@ -40,15 +40,16 @@ fn is_agreeing(v: Values) -> bool
     if wide {
         return u.number == s.number;
     }
-    u.number % 256 == s.number % 256
+    u.valid() & (s.valid() & (u.number % 256 == s.number % 256))
 }
 
 pub(crate) fn is_lawful(v: Values) -> bool
     ensures { λ r. ⌜ r ≡ lawful v ⌝ }
 {
-    let u = v.unsigned;
-    let s = v.signed;
-    !v.given | (u.valid() & (s.valid() & is_agreeing(v)))
+    if v.given {
+        return is_matched(v);
+    }
+    true
 }
 
 pub(crate) fn is_sound(i: Instruction, v: Values) -> bool
@@ -65,11 +66,21 @@ pub(crate) fn is_missing(i: Instruction, v: Values) -> bool
     needs_value(o.mode, i.form) & !v.given
 }
 
+// What 1 asks of the values where there are some, and 3 where there are none.
+fn is_valued(i: Instruction, v: Values) -> bool
+    ensures { λ r. ⌜ r ≡ valued i v ⌝ }
+{
+    if v.given {
+        return is_matched(v);
+    }
+    let o = i.operand;
+    !needs_value(o.mode, i.form)
+}
+
 // All that 1, 2 and 3 ask but for what a row tells, that the operation is known and has the form.
 pub(crate) fn is_fit(i: Instruction, v: Values) -> bool
     ensures { λ r. ⌜ r ≡ fit i v ⌝ }
 {
     let o = i.operand;
-    is_regular(o)
-        & ((i.form < 7) & (is_lawful(v) & (!is_stray(o.mode, i.form) & !is_missing(i, v))))
+    is_regular(o) & ((i.form < 7) & (is_valued(i, v) & !is_stray(o.mode, i.form)))
 }

@@ -8,18 +8,15 @@ use Rattle.instruction.proofs.validity.is_fit.Tie as tie
 is-regular-requires : tie.Need-is-regular-requires
 is-regular-requires c κs = search needs
 
-is-lawful-requires : tie.Need-is-lawful-requires
-is-lawful-requires c κs = search needs
+is-valued-requires : tie.Need-is-valued-requires
+is-valued-requires c κs = search needs
 
 is-stray-requires : tie.Need-is-stray-requires
 is-stray-requires c κs = search needs
 
-is-missing-requires : tie.Need-is-missing-requires
-is-missing-requires c κs = search needs
-
 returns : tie.Need-returns
 unfolding fit
-returns c = rw (c .before .before .before .before .is-regular .ensures, c .before .before .is-lawful .ensures, c .before .is-stray .ensures, c .is-missing .ensures)
+returns c = rw (c .before .before .before .is-regular .ensures, c .before .is-valued .ensures, c .is-stray .ensures)
 
 pub is-fit-spec : {M : Type 1} → statement M
-is-fit-spec = tie.close (tie.spec is-regular-requires is-lawful-requires is-stray-requires is-missing-requires returns)
+is-fit-spec = tie.close (tie.spec is-regular-requires is-valued-requires is-stray-requires returns)
