@@ -7,6 +7,7 @@ use native.Mathlib.Omega.{arith}
 use lib.Dec.{eqb, ltb}
 use borrow.Author.Tests.{eqb-true, eqb-false, ne-eqb, ltb-true, not-true}
 use Rattle.ground.specs.Choice.{pick}
+use Rattle.ground.proofs.Choices.{by-pick}
 use Rattle.ground.proofs.Tests.{both-first, both-second}
 use Rattle.values.specs.Widths.{validOf}
 use Rattle.rows.specs.declared.Coded.{Coded}
@@ -21,11 +22,14 @@ use Rattle.instruction.specs.declared.Operand.{Operand}
 use Rattle.instruction.specs.declared.Values.{Values}
 use Rattle.instruction.specs.declared.Instruction.{Instruction}
 use Rattle.instruction.specs.declared.Chosen.{Chosen}
+use Rattle.instruction.specs.declared.Laid.{Laid}
+use Rattle.instruction.specs.declared.Built.{Built}
 use Rattle.instruction.specs.Records.{stepped, recognised, agreeing, lawful, sound}
 use Rattle.instruction.specs.Forms.{strays, lacks, needsValue}
 use Rattle.instruction.specs.Choosing.{longBranch, chooseOf}
-use Rattle.instruction.specs.Building.{earlyOf, refusedWith, acceptedOf, finishedOf, buildOf}
-use Rattle.instruction.specs.Quick.{regular, matched, misses, valued, fit, CodeTells, firstRefusal}
+use Rattle.instruction.specs.Bytes.{laidAt, laidOf}
+use Rattle.instruction.specs.Building.{earlyOf, dirtiesOf, refusedWith, acceptedOf, finishedOf, buildOf}
+use Rattle.instruction.specs.Quick.{regular, matched, misses, valued, fit, CodeTells, firstRefusal, outcomeOf, withOutcome}
 use Rattle.instruction.proofs.Rows.{direct-extended}
 use Rattle.instruction.proofs.Formed.{isMemory}
 use Rattle.instruction.proofs.Choice.{choice, address-choice}
@@ -182,3 +186,23 @@ module _ (i : Instruction) (v : Values) (dirty : Bool) (address : ℕ) where
           pick t (finishedOf i c address) (refusedWith i (earlyOf i v)) ≡ refusedWith i (pick t (c .refusal) (earlyOf i v))
       go true h = rw (ne-eqb (c .refusal) 0 h)
       go false h = refl
+
+-- ---- what a build comes to
+pub accepted-outcome :
+    (i : Instruction) (k : Chosen) (address : ℕ) {coded : Coded} {laid : Laid} {dirties : Bool} →
+    coded ≡ codeOf (k .operation) (k .form) →
+    laid ≡ laidAt coded k address →
+    dirties ≡ dirtiesOf (i .operand) →
+    record { refusal = 0; form = k .form; trial = k .trial; widened = k .widened; bytes = laid .bytes; length = laid .length; dirties = dirties }
+    ≡ outcomeOf (acceptedOf i k address)
+unfolding acceptedOf laidOf
+accepted-outcome i k address e f g = cc
+
+-- a build changes nothing of the operand
+pub with-outcome :
+    (i : Instruction) (v : Values) (dirty : Bool) (address : ℕ) →
+    withOutcome i (outcomeOf (buildOf i v dirty address)) ≡ buildOf i v dirty address
+unfolding buildOf finishedOf acceptedOf
+with-outcome i v dirty address =
+    let P : Built → Type 0 = λ b. withOutcome i (outcomeOf b) ≡ b in
+    by-pick P (eqb (earlyOf i v) 0) (by-pick P (eqb (chooseOf i v dirty address .refusal) 0) refl refl) refl

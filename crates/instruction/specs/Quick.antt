@@ -12,6 +12,8 @@ use Rattle.instruction.specs.declared.Operand.{Operand}
 use Rattle.instruction.specs.declared.Values.{Values}
 use Rattle.instruction.specs.declared.Instruction.{Instruction}
 use Rattle.instruction.specs.declared.Chosen.{Chosen}
+use Rattle.instruction.specs.declared.Built.{Built}
+use Rattle.instruction.specs.declared.Outcome.{Outcome}
 use Rattle.instruction.specs.Records.{stepped, agreeing}
 use Rattle.instruction.specs.Forms.{strays, needsValue}
 use Rattle.instruction.specs.Building.{earlyOf}
@@ -43,3 +45,25 @@ CodeTells i v c coded = fit i v ≡ true → isCode coded ≡ true → c .refusa
 -- 1, 2 and 3, then what choosing refuses; 0 is none of them
 unfoldable pub firstRefusal : Instruction → Values → Chosen → ℕ
 firstRefusal i v c = pick (eqb (earlyOf i v) 0) (c .refusal) (earlyOf i v)
+
+-- a build but for the operand, which it never changes
+abbrev pub outcomeOf : Built → Outcome
+outcomeOf b = record {
+  refusal = b .refusal;
+  form = b .instruction .form;
+  trial = b .instruction .trial;
+  widened = b .instruction .widened;
+  bytes = b .bytes;
+  length = b .length;
+  dirties = b .dirties;
+}
+
+-- an instruction that took on what a build came to
+abbrev pub withOutcome : Instruction → Outcome → Built
+withOutcome i out = record {
+  refusal = out .refusal;
+  instruction = record { operand = i .operand; form = out .form; trial = out .trial; widened = out .widened };
+  bytes = out .bytes;
+  length = out .length;
+  dirties = out .dirties;
+}

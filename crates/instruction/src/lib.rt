@@ -25,9 +25,8 @@ use validity::is_sound;
 use values::Value;
 ghost use mathlib.Core.Path.{_≡_};
 ghost use lib.ListN.{length};
-ghost use Rattle.rows.specs.Lookup.{codeOf};
-ghost use Rattle.instruction.specs.Building.{noOperand, noInstruction, noValues, instructionOf, unmade, makeOf, operandRefusal, dirtiesOf, refusedWith, acceptedOf, buildOf, handed, freshOf, placedOf, bufferOf};
-ghost use Rattle.instruction.specs.Quick.{CodeTells, firstRefusal};
+ghost use Rattle.instruction.specs.Building.{noOperand, noInstruction, noValues, instructionOf, unmade, makeOf, operandRefusal, dirtiesOf, refusedWith, buildOf, handed, freshOf, placedOf, bufferOf};
+ghost use Rattle.instruction.specs.Quick.{CodeTells, firstRefusal, outcomeOf, withOutcome};
 
 // What a build does not change: the operand as the parser saw it. Any number in it may be wrong.
 pub struct Operand {
@@ -81,6 +80,17 @@ pub struct Built {
     pub bytes: [u8; 5],
     pub length: u8,
     pub dirties: bool,
+}
+
+// A build but for the operand, which it never changes. So that is not carried along.
+struct Outcome {
+    refusal: u8,
+    form: u8,
+    trial: bool,
+    widened: bool,
+    bytes: [u8; 5],
+    length: u8,
+    dirties: bool,
 }
 
 // What a build into a lent buffer answers beside the bytes stored.
@@ -266,26 +276,6 @@ impl Instruction {
         }
     }
 
-    // Takes on what a build settled, and hands it back beside its bytes, which stand behind the row's code.
-    fn accept(mut self, c: Chosen, coded: Coded, address: u16) -> Built
-        requires { ⌜ coded ≡ codeOf (c .operation) (c .form) ⌝ }
-        ensures { λ r. ⌜ r ≡ acceptedOf self c address ⌝ }
-    {
-        let o = self.operand;
-        let laid = lay(c, coded, address);
-        let bytes = laid.bytes;
-        self.form = c.form;
-        self.trial = c.trial;
-        self.widened = c.widened;
-        Built {
-            refusal: 0,
-            instruction: self,
-            bytes,
-            length: laid.length,
-            dirties: dirties(o),
-        }
-    }
-
     // The first refusal in 01's order, 0 where there is none. A row whose code was found is known and has the form, so that it is asked for 1 and 2 only if
     // something is wrong.
     fn first_refusal(self, v: Values, c: Chosen, coded: Coded) -> u8
@@ -310,18 +300,62 @@ impl Instruction {
         c.refusal
     }
 
-    // The instruction is taken by value and handed back, with its new form, trial mark and widening beside its bytes. A refusal hands it back
-    // unchanged, with zeros.
-    pub fn build(mut self, v: Values, dirty: bool, address: u16) -> Built
-        ensures { λ r. ⌜ r ≡ buildOf self v dirty address ⌝ }
+    // What a build comes to: the first refusal with the form and the marks as they were, or what is chosen, with its bytes behind the row's code.
+    fn outcome(self, v: Values, dirty: bool, address: u16) -> Outcome
+        ensures { λ r. ⌜ r ≡ outcomeOf (buildOf self v dirty address) ⌝ }
     {
         let c = choose(self, v, dirty, address);
         let coded = rows::code_of(c.operation, c.form);
         let n = self.first_refusal(v, c, coded);
         if n != 0 {
-            return refused(self, n);
+            return Outcome {
+                refusal: n,
+                form: self.form,
+                trial: self.trial,
+                widened: self.widened,
+                bytes: [0; 5],
+                length: 0,
+                dirties: false,
+            };
         }
-        self.accept(c, coded, address)
+        let o = self.operand;
+        let laid = lay(c, coded, address);
+        let bytes = laid.bytes;
+        Outcome {
+            refusal: 0,
+            form: c.form,
+            trial: c.trial,
+            widened: c.widened,
+            bytes,
+            length: laid.length,
+            dirties: dirties(o),
+        }
+    }
+
+    // Takes on the form and the marks, and is handed back beside its bytes.
+    fn with(mut self, out: Outcome) -> Built
+        ensures { λ r. ⌜ r ≡ withOutcome self out ⌝ }
+    {
+        let bytes = out.bytes;
+        self.form = out.form;
+        self.trial = out.trial;
+        self.widened = out.widened;
+        Built {
+            refusal: out.refusal,
+            instruction: self,
+            bytes,
+            length: out.length,
+            dirties: out.dirties,
+        }
+    }
+
+    // The instruction is taken by value and handed back, with its new form, trial mark and widening beside its bytes. A refusal hands it back
+    // unchanged, with zeros.
+    pub fn build(mut self, v: Values, dirty: bool, address: u16) -> Built
+        ensures { λ r. ⌜ r ≡ buildOf self v dirty address ⌝ }
+    {
+        let out = self.outcome(v, dirty, address);
+        self.with(out)
     }
 }
 
@@ -369,5 +403,6 @@ pub fn assemble(r: Record, address: u16) -> Built
     let o = r.operand;
     let v = r.values;
     let i = instruction_of(o, form_for(o, v, r.dirty));
-    handed(i.build(v, r.dirty, address))
+    let out = i.outcome(v, r.dirty, address);
+    handed(i.with(out))
 }
