@@ -5,7 +5,7 @@ use mathlib.Core.Path.{_≡_, _∙_, refl, sym, ap}
 use mathlib.Core.Bool.{Bool, true, false, true≢false}
 use mathlib.Core.Logic.{⊎-elim}
 use Prim.Native.Nat.{ℕ}
-use lib.Dec.{eqb, ltb}
+use lib.Dec.{eqb}
 use Rattle.ground.specs.Choice.{pick}
 use Rattle.rows.specs.Forms.{direct, extended}
 use Rattle.instruction.specs.declared.Operand.{Operand}
@@ -13,10 +13,10 @@ use Rattle.instruction.specs.declared.Values.{Values}
 use Rattle.instruction.specs.declared.Instruction.{Instruction}
 use Rattle.instruction.specs.declared.Chosen.{Chosen}
 use Rattle.instruction.specs.declared.Built.{Built}
-use Rattle.instruction.specs.Records.{recognised, lawful, sound}
-use Rattle.instruction.specs.Forms.{formOf, lacks, needsValue}
+use Rattle.instruction.specs.Records.{sound}
+use Rattle.instruction.specs.Forms.{formOf, needsValue}
 use Rattle.instruction.specs.Choosing.{chooseOf}
-use Rattle.instruction.specs.Building.{noInstruction, instructionOf, madeAs, makeOf, earlyOf, refusedWith, acceptedOf, finishedOf, buildOf, handed, freshFrom, freshOf}
+use Rattle.instruction.specs.Building.{noInstruction, instructionOf, makeOf, earlyOf, refusedWith, acceptedOf, finishedOf, buildOf, handed}
 use Rattle.instruction.specs.Sequences.{Present, builtWith, keptAfter, freshWith, AsFresh}
 use Rattle.instruction.proofs.Before.{lacks-alike}
 use Rattle.instruction.proofs.Ready.{fresh-built}

@@ -18,7 +18,6 @@ use Rattle.rows.proofs.Codes.{has-form-code, has-form-known}
 use Rattle.rows.proofs.Laws.{code-merged}
 use Rattle.rows.proofs.Lengths.{number-has-form, long-of-other}
 use Rattle.postbytes.specs.Lists.{strangeList}
-use Rattle.instruction.specs.declared.Operand.{Operand}
 use Rattle.instruction.specs.declared.Values.{Values}
 use Rattle.instruction.specs.declared.Instruction.{Instruction}
 use Rattle.instruction.specs.declared.Chosen.{Chosen}

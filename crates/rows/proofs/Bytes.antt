@@ -17,39 +17,32 @@ use Rattle.rows.specs.Sheet.{tableOf, page0, page10, page11}
 use Rattle.rows.specs.Lookup.{mergedOf, isCode, placed, hasFormOf, knownOf, codeOf, forms}
 use Rattle.rows.specs.Sizes.{isWide, isLong, numberAt, ofCode, numberSizeOf, leastAt, lesser, leastAmong, smallestSizeOf, longFrom}
 use Rattle.rows.specs.Registers.{reachesMemory, isShortBranch, isLongBranch, numberFor}
-use Rattle.rows.specs.Quick.{rowAt, digitOf, placeOnPage0, sixteenLine, regularCode, otherLine, placeOfOperation, pageOf, quickOn, wideOf, immediateBytes, memoryBytes, branchBytes, numberBytes, operandBytes, formedOf, rowBytes}
+use Rattle.rows.specs.Quick.{rowAt, digitOf, placeOnPage0, sixteenLine, regularCode, otherLine, placeOfOperation, pageOf, quickOn, numberLine, numberDigit, numberBytes, operandBytes, formedOf, rowBytes}
 use Rattle.rows.proofs.Codes.{placed-none}
 use Rattle.rows.proofs.Quick.{quickKnown, same-bool, known-quick, code-agrees}
 use Rattle.rows.proofs.Sources.{of-code, no-number-for, two-sources}
 
 numberAgrees : ℕ → ℕ → Bool
-numberAgrees o form = eqb (pick (quickKnown o) (numberBytes (mergedOf o) form) 0) (numberFor (mergedOf o) form)
+numberAgrees o form = eqb (numberBytes (numberDigit o) form) (numberFor (mergedOf o) form)
 
 numbers-agree : T (upto (λ (o : ℕ). upto (numberAgrees o) 7) 256)
-unfolding numberAgrees numberBytes wideOf immediateBytes memoryBytes branchBytes numberFor reachesMemory isShortBranch isLongBranch mergedOf pick
+unfolding numberAgrees numberBytes numberDigit numberLine digitOf numberFor reachesMemory isShortBranch isLongBranch mergedOf pick
 numbers-agree = tt
 
-zero-either : (t : Bool) → pick {A = ℕ} t 0 0 ≡ 0
-unfolding pick
-zero-either true = refl
-zero-either false = refl
-
-no-bytes : (o form : ℕ) → 7 ≤ form → numberBytes o form ≡ 0
+no-bytes : (told form : ℕ) → 7 ≤ form → numberBytes told form ≡ 0
 unfolding numberBytes pick
-no-bytes o form h =
+no-bytes told form h =
     rw (ne-eqb form 1 (omega arith), ne-eqb form 2 (omega arith), ne-eqb form 4 (omega arith), ne-eqb form 5 (omega arith))
 
-pub number-quick : (o form : ℕ) → o < 256 → pick (knownOf o) (numberBytes (mergedOf o) form) 0 ≡ numberSizeOf o form
+pub number-quick : (o form : ℕ) → o < 256 → numberBytes (numberDigit o) form ≡ numberSizeOf o form
 unfolding numberAgrees
-number-quick o form h = rw (← known-quick o h) (known (ltb form 7) refl ∙ sym (two-sources o form h))
+number-quick o form h = formed (ltb form 7) refl ∙ sym (two-sources o form h)
   where
-    known : (t : Bool) → ltb form 7 ≡ t → pick (quickKnown o) (numberBytes (mergedOf o) form) 0 ≡ numberFor (mergedOf o) form
-    known true e =
-        eqb→eq (pick (quickKnown o) (numberBytes (mergedOf o) form) 0) (numberFor (mergedOf o) form)
+    formed : (t : Bool) → ltb form 7 ≡ t → numberBytes (numberDigit o) form ≡ numberFor (mergedOf o) form
+    formed true e =
+        eqb→eq (numberBytes (numberDigit o) form) (numberFor (mergedOf o) form)
         (below (numberAgrees o) 7 (below (λ (n : ℕ). upto (numberAgrees n) 7) 256 numbers-agree o h) form (ltb-true form 7 e))
-    known false e =
-        rw (no-bytes (mergedOf o) form (ltb-false form 7 e))
-        (zero-either (quickKnown o) ∙ sym (no-number-for (mergedOf o) form (ltb-false form 7 e)))
+    formed false e = no-bytes (numberDigit o) form (ltb-false form 7 e) ∙ sym (no-number-for (mergedOf o) form (ltb-false form 7 e))
 
 abbrev leastQuick : ℕ → List ℕ → ℕ
 leastQuick o [] = 0
@@ -78,21 +71,13 @@ formAgrees o form =
     pick (isCode (quickOn (mergedOf o) form)) (quickKnown o && formedOf (mergedOf o) form) (not (quickKnown o && formedOf (mergedOf o) form))
 
 forms-agree : T (upto (λ (o : ℕ). upto (formAgrees o) 7) 256)
-unfolding formAgrees formedOf wideOf immediateBytes memoryBytes branchBytes operandBytes quickOn mergedOf rowAt digitOf pageOf sixteenLine regularCode otherLine placeOfOperation placeOnPage0 tableOf page0 page10 page11 pick
+unfolding formAgrees formedOf numberBytes numberDigit numberLine operandBytes quickOn mergedOf rowAt digitOf pageOf sixteenLine regularCode otherLine placeOfOperation placeOnPage0 tableOf page0 page10 page11 pick
 forms-agree = tt
 
 no-form-formed : (o form : ℕ) → 7 ≤ form → formedOf o form ≡ false
 unfolding formedOf pick
 no-form-formed o form h =
-    rw (
-      ne-eqb form 0 (omega arith),
-      ne-eqb form 1 (omega arith),
-      ne-eqb form 2 (omega arith),
-      ne-eqb form 3 (omega arith),
-      ne-eqb form 4 (omega arith),
-      ne-eqb form 5 (omega arith),
-      ne-eqb form 6 (omega arith),
-    )
+    rw (ne-eqb form 0 (omega arith), ne-eqb form 3 (omega arith), ne-eqb form 6 (omega arith), no-bytes (numberDigit o) form h)
 
 either-false : (t : Bool) → (t && false) ≡ false
 either-false true = refl
@@ -109,10 +94,6 @@ form-quick o form h = rw (← known-quick o h) (known (ltb form 7) refl)
         ∙ ap isCode (code-agrees o form h)
     known false e =
         rw (no-form-formed (mergedOf o) form (ltb-false form 7 e), placed-none o form (ltb-false form 7 e)) (either-false (quickKnown o))
-
-pub memory-small : (o : ℕ) → memoryBytes o ≤ 1
-unfolding memoryBytes
-memory-small o = by-pick (λ (n : ℕ). n ≤ 1) _ (omega arith) (omega arith)
 
 pub operand-small : (o : ℕ) → operandBytes o ≤ 2
 unfolding operandBytes

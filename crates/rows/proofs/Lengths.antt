@@ -13,9 +13,8 @@ use Rattle.rows.specs.declared.Coded.{Coded}
 use Rattle.rows.specs.declared.Coded.the-variants.{Code, Unknown, Missing}
 use Rattle.rows.specs.Lookup.{mergedOf, isCode, hasFormOf, knownOf, codeOf}
 use Rattle.rows.specs.Sizes.{numberAt, ofCode, numberSizeOf, smallestSizeOf, longFrom, longOf}
-use Rattle.rows.specs.Quick.{wideOf, immediateBytes, memoryBytes, branchBytes, numberBytes, pageOf, rowBytes}
+use Rattle.rows.specs.Quick.{digitOf, numberLine, numberDigit, numberBytes, pageOf, rowBytes}
 use Rattle.rows.proofs.Codes.{has-form-code}
-use Rattle.rows.proofs.Quick.{quickKnown, known-quick}
 use Rattle.rows.proofs.Bytes.{number-quick, size-quick, operand-small}
 
 -- a known operation has from one to four bytes at the least, and an unknown one none
@@ -43,16 +42,16 @@ number-has-form o form h = has-form-code o form ∙ from (codeOf o form) h
 
 -- the branch's bytes as the code has them
 abbrev distance : ℕ → ℕ
-distance o = pick (quickKnown o) (numberBytes (mergedOf o) 5) 0
+distance o = numberBytes (numberDigit o) 5
 
 distance-is : (o : ℕ) → o < 256 → distance o ≡ numberSizeOf o 5
-distance-is o h = rw (known-quick o h) (number-quick o 5 h)
+distance-is o h = number-quick o 5 h
 
 longRight : ℕ → Bool
 longRight o = pick (eqb (distance o) 1) (eqb (distance (longOf o)) 2) (eqb (longOf o) (mergedOf o))
 
 longs-right : T (upto (λ (o : ℕ). longRight o && ltb (longOf o) 256) 256)
-unfolding longRight longOf longFrom mergedOf numberBytes immediateBytes wideOf memoryBytes branchBytes pick
+unfolding longRight longOf longFrom mergedOf numberBytes numberDigit numberLine digitOf pick
 longs-right = tt
 
 right-at : (o : ℕ) → o < 256 → T (longRight o && ltb (longOf o) 256)

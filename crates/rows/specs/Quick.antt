@@ -1,7 +1,7 @@
 -- The quick ways that the code takes. Nothing here has to be believed: proofs/Quick.antt and proofs/Bytes.antt show that they come to what
 -- Lookup.antt and Sizes.antt define.
 use Prim.Native.Nat.{ℕ, _+_, _-_, _*_, _/_, _%_, _^_}
-use mathlib.Core.Bool.{Bool, false, _&&_, _||_, not}
+use mathlib.Core.Bool.{Bool, _&&_, _||_, not}
 use mathlib.Core.List.{List, [], _∷_}
 use lib.Dec.{eqb, leb, ltb}
 use lib.ListN.{length, getD}
@@ -12,7 +12,7 @@ use Rattle.rows.specs.declared.Coded.{Coded}
 use Rattle.rows.specs.declared.Coded.the-variants.{Missing}
 use Rattle.rows.specs.declared.Named.{Named}
 use Rattle.rows.specs.declared.Named.the-variants.{Undefined}
-use Rattle.rows.specs.Forms.{inherent, immediate, direct, indexed, extended, relative, register}
+use Rattle.rows.specs.Forms.{inherent, immediate, indexed, register}
 use Rattle.rows.specs.Sheet.{tableOf}
 use Rattle.rows.specs.Lookup.{onPage, inForm}
 use Rattle.rows.specs.Sizes.{between}
@@ -146,45 +146,42 @@ quickRow page code = inForm (formOf code) (rowAt (placeOfCode page code) (tableO
 unfoldable pub quickOn : ℕ → ℕ → Coded
 quickOn o form = onPage (pageOf o) (ofOperation o (rowAt (placeOfOperation o form) (tableOf (pageOf o) form))) Missing
 
--- the bytes of an operation's immediate, direct address and branch, and the least of any row but its code, by the operation's number
-unfoldable pub wideOf : ℕ → Bool
-wideOf o =
-    ((((((eqb o 51 || eqb o 60) || eqb o 62) || eqb o 67) || eqb o 76) || eqb o 78)
-    || between 114 117 o) || between 121 122 o
+-- the number that stands after an operation's codes, a digit for each operation: its right two bits are the bytes of an immediate; its left two bits are 1
+-- where there is an address, 2 for a branch's distance and 3 for a long branch's
+unfoldable pub numberLine : ℕ → ℕ
+numberLine o =
+    pick (eqb (o / 16) 0) 0x4004_4044_4440_4444
+    (pick (eqb (o / 16) 3) 0x5556_5554_5555_6464
+    (pick (eqb (o / 16) 4) 0x5556_5554_5555_6464
+    (pick (eqb (o / 16) 5) 0x8888_8888_8888_8888
+    (pick (eqb (o / 16) 6) 0xCCCC_CCCC_CCCC_CCCC
+    (pick (eqb (o / 16) 7) 0xC866_6644_0660_0000
+    (pick (eqb (o / 16) 8) 0x0000_0111_0000_0000
+    (pick (eqb (o / 16) 9) 0x0040_088C_C000_0000 0)))))))
 
-unfoldable pub immediateBytes : ℕ → ℕ
-immediateBytes o =
-    pick (wideOf o) 2
-    (pick (((between 48 79 o) && not ((eqb (o % 16) 7 || eqb (o % 16) 13) || eqb (o % 16) 15)) || between 133 135 o) 1 0)
+unfoldable pub numberDigit : ℕ → ℕ
+numberDigit o = digitOf (numberLine o) o
 
-unfoldable pub memoryBytes : ℕ → ℕ
-memoryBytes o =
-    pick ((ltb o 16 || between 48 79 o) || (between 114 119 o || between 121 122 o)) 1 0
+-- the bytes of a number in a form, by the digit
+unfoldable pub numberBytes : ℕ → ℕ → ℕ
+numberBytes told form =
+    pick (eqb form 1) (told % 4)
+    (pick (eqb form 2) (pick (eqb (told / 4) 1) 1 0)
+    (pick (eqb form 4) (pick (eqb (told / 4) 1) 2 0)
+    (pick (eqb form 5) (pick (leb 2 (told / 4)) (told / 4 - 1) 0) 0)))
 
-unfoldable pub branchBytes : ℕ → ℕ
-branchBytes o = pick (between 80 95 o || eqb o 113) 1 (pick (between 96 112 o) 2 0)
-
+-- the least bytes of any row but its code, by the operation's number
 unfoldable pub operandBytes : ℕ → ℕ
 operandBytes o = pick (between 16 47 o || (eqb o 120 || between 123 132 o)) 0 (pick (between 96 112 o) 2 1)
 
-unfoldable pub numberBytes : ℕ → ℕ → ℕ
-numberBytes o form =
-    pick (eqb form 1) (immediateBytes o)
-    (pick (eqb form 2) (memoryBytes o)
-    (pick (eqb form 4) (2 * memoryBytes o)
-    (pick (eqb form 5) (branchBytes o) 0)))
-
--- whether a known operation that is no alias has a form: if the form has bytes for it, or for an inherent row none; the registers' rows are 136 to
--- 141, and from 142 on are LEAX to LEAU
+-- whether a known operation that is no alias has a form: if the form has bytes for it, or for an inherent row none; what has a direct form has an indexed
+-- one, as LEAX to LEAU, from 142 on, have; the registers' rows are 136 to 141
 unfoldable pub formedOf : ℕ → ℕ → Bool
 formedOf o form =
     pick (eqb form inherent) (eqb (operandBytes o) 0)
-    (pick (eqb form immediate) (not (eqb (immediateBytes o) 0))
-    (pick (eqb form direct) (not (eqb (memoryBytes o) 0))
-    (pick (eqb form indexed) (not (eqb (memoryBytes o) 0) || leb 142 o)
-    (pick (eqb form extended) (not (eqb (memoryBytes o) 0))
-    (pick (eqb form relative) (not (eqb (branchBytes o) 0))
-    (pick (eqb form register) (between 136 141 o) false))))))
+    (pick (eqb form indexed) (eqb (numberDigit o / 4) 1 || leb 142 o)
+    (pick (eqb form register) (between 136 141 o)
+    (not (eqb (numberBytes (numberDigit o) form) 0))))
 
 unfoldable pub rowBytes : ℕ → ℕ
 rowBytes o = pick (eqb (pageOf o) 0x00) 1 2 + operandBytes o

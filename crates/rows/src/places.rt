@@ -7,7 +7,7 @@ ghost use lib.ListN.{getD};
 ghost use Rattle.rows.specs.Quick.{digitOf, formLines, formOf, firsts, stepLines, placeOnPage0, prefixedLines, placeOfCode, sixteenLine, regularCode, otherLine, placeOfOperation};
 
 // The digit of a line for a case.
-fn digit(line: u64, case: u8) -> u8
+pub(crate) fn digit(line: u64, case: u8) -> u8
     ensures { λ r. ⌜ r ≡ digitOf line case ⌝ }
 {
     ((line >> (60 - 4 * (case % 16))) % 16) as u8

@@ -3,77 +3,46 @@ use crate::forms::*;
 use crate::known;
 use crate::merged;
 use crate::page_of;
+use crate::places::digit;
 ghost use mathlib.Core.Path.{_≡_};
 ghost use Rattle.rows.specs.Sizes.{numberSizeOf, immediateWidthOf, smallestSizeOf, longOf};
-ghost use Rattle.rows.specs.Quick.{wideOf, immediateBytes, memoryBytes, branchBytes, numberBytes, operandBytes, formedOf, rowBytes};
+ghost use Rattle.rows.specs.Quick.{numberLine, numberDigit, numberBytes, operandBytes, formedOf, rowBytes};
 
-// SUBD CMPX LDX, ADDD LDD LDU, CMPD CMPY LDY LDS, CMPU CMPS: immediates of 16 bits.
-fn is_wide(operation: u8) -> bool
-    ensures { λ r. ⌜ r ≡ wideOf operation ⌝ }
+// The number that stands after an operation's codes, a digit for each operation: its right two bits are the bytes of an immediate; its left two bits
+// are 1 where there is an address, 2 for a branch's distance and 3 for a long branch's. NEG to CLR; SUBA to STX; SUBB to STU; BRA to BLE; LBRA to LBLE;
+// LBSR BSR CMPD CMPY LDY LDS STY STS, CMPU CMPS; ORCC ANDCC CWAI; LSL, BHS BLO LBHS LBLO.
+fn number_line(operation: u8) -> u64
+    ensures { λ r. ⌜ r ≡ numberLine operation ⌝ }
 {
-    (operation == 51)
-        | (operation == 60)
-        | (operation == 62)
-        | (operation == 67)
-        | (operation == 76)
-        | (operation == 78)
-        | ((114 <= operation) & (operation <= 117))
-        | ((121 <= operation) & (operation <= 122))
+    match operation / 16 {
+        0 => 0x4004_4044_4440_4444,
+        3 => 0x5556_5554_5555_6464,
+        4 => 0x5556_5554_5555_6464,
+        5 => 0x8888_8888_8888_8888,
+        6 => 0xCCCC_CCCC_CCCC_CCCC,
+        7 => 0xC866_6644_0660_0000,
+        8 => 0x0000_0111_0000_0000,
+        9 => 0x0040_088C_C000_0000,
+        _ => 0,
+    }
 }
 
-// The bytes of an immediate. Of SUBA to STU the stores and JSR have none.
-fn immediate_bytes(operation: u8) -> u8
-    ensures { λ r. ⌜ r ≡ immediateBytes operation ⌝ }
+fn number_digit(operation: u8) -> u8
+    ensures { λ r. ⌜ r ≡ numberDigit operation ⌝ }
 {
-    let step = operation % 16;
-    let store = (step == 7) | (step == 13) | (step == 15);
-    let load = (48 <= operation) & (operation <= 79) & !store;
-    let flags = (133 <= operation) & (operation <= 135);
-    if is_wide(operation) {
-        return 2;
-    }
-    if load | flags {
-        return 1;
-    }
-    0
+    digit(number_line(operation), operation)
 }
 
-// The bytes of a direct address: NEG to CLR, SUBA to STU, CMPD to STS, CMPU and CMPS have one.
-fn memory_bytes(operation: u8) -> u8
-    ensures { λ r. ⌜ r ≡ memoryBytes operation ⌝ }
+// The bytes of a number in a form. A direct address has one, an extended one two.
+fn number_bytes(told: u8, form: u8) -> u8
+    ensures { λ r. ⌜ r ≡ numberBytes told form ⌝ }
 {
-    let plain = (operation < 16) | ((48 <= operation) & (operation <= 79));
-    let prefixed = ((114 <= operation) & (operation <= 119))
-        | ((121 <= operation) & (operation <= 122));
-    if plain | prefixed {
-        return 1;
-    }
-    0
-}
-
-// The bytes of a branch's distance.
-fn branch_bytes(operation: u8) -> u8
-    ensures { λ r. ⌜ r ≡ branchBytes operation ⌝ }
-{
-    let short = ((80 <= operation) & (operation <= 95)) | (operation == 113);
-    let long = (96 <= operation) & (operation <= 112);
-    if short {
-        return 1;
-    }
-    if long {
-        return 2;
-    }
-    0
-}
-
-fn number_bytes(operation: u8, form: u8) -> u8
-    ensures { λ r. ⌜ r ≡ numberBytes operation form ⌝ }
-{
+    let kind = told / 4;
     match form {
-        IMMEDIATE => immediate_bytes(operation),
-        DIRECT => memory_bytes(operation),
-        EXTENDED => 2 * memory_bytes(operation),
-        RELATIVE => branch_bytes(operation),
+        IMMEDIATE => told % 4,
+        DIRECT => if kind == 1 { 1 } else { 0 },
+        EXTENDED => if kind == 1 { 2 } else { 0 },
+        RELATIVE => if 2 <= kind { kind - 1 } else { 0 },
         _ => 0,
     }
 }
@@ -82,10 +51,7 @@ fn number_bytes(operation: u8, form: u8) -> u8
 pub fn number_size(operation: u8, form: u8) -> u8
     ensures { λ r. ⌜ r ≡ numberSizeOf operation form ⌝ }
 {
-    if known(operation) {
-        return number_bytes(merged(operation), form);
-    }
-    0
+    number_bytes(number_digit(operation), form)
 }
 
 // The bits of an immediate: 8 or 16, and 0 where the operation has no immediate form.
@@ -111,20 +77,17 @@ fn operand_bytes(operation: u8) -> u8
     1
 }
 
-// Whether an operation that is known and no alias has a form: if the form has bytes for it, or for an inherent row none. LEAX to LEAU, 142 and
-// up, are indexed only.
+// Whether an operation that is known and no alias has a form: if the form has bytes for it, or for an inherent row none. What has a direct form has an
+// indexed one; LEAX to LEAU, 142 and up, are indexed only.
 pub(crate) fn is_formed(operation: u8, form: u8) -> bool
     ensures { λ r. ⌜ r ≡ formedOf operation form ⌝ }
 {
+    let told = number_digit(operation);
     match form {
         INHERENT => operand_bytes(operation) == 0,
-        IMMEDIATE => immediate_bytes(operation) != 0,
-        DIRECT => memory_bytes(operation) != 0,
-        INDEXED => (memory_bytes(operation) != 0) | (142 <= operation),
-        EXTENDED => memory_bytes(operation) != 0,
-        RELATIVE => branch_bytes(operation) != 0,
+        INDEXED => (told / 4 == 1) | (142 <= operation),
         REGISTER => (136 <= operation) & (operation <= 141),
-        _ => false,
+        _ => number_bytes(told, form) != 0,
     }
 }
 
