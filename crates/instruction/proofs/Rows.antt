@@ -3,23 +3,22 @@
 -- would be searched.
 -- Assumes nothing.
 use mathlib.Core.Path.{_≡_, refl, sym, ap, _∙_}
-use mathlib.Core.Bool.{Bool, true, false, not, _||_, false≢true}
+use mathlib.Core.Bool.{Bool, true, false, not, false≢true}
 use mathlib.Core.List.{[], _∷_}
-use Prim.Native.Nat.{ℕ, _*_, _<_}
+use Prim.Native.Nat.{ℕ, _-_, _*_, _/_, _<_}
 use native.Mathlib.Omega.{arith}
-use lib.Dec.{T, eqb, ltb, leb, eqb→eq}
-use borrow.Author.Tests.{ltb-false, lt-ltb, eqb-true, ne-eqb, leb-true, not-false}
+use lib.Dec.{eqb, ltb, leb}
+use borrow.Author.Tests.{ltb-false, lt-ltb, eqb-true, leb-true, not-false}
 use Rattle.ground.specs.Choice.{pick}
 use Rattle.ground.proofs.Choices.{pick-true, by-test}
-use Rattle.ground.proofs.Ranges.{upto, below}
 use Rattle.ground.proofs.Tests.{both-second, neither-left}
 use Rattle.rows.specs.declared.Coded.{Coded}
 use Rattle.rows.specs.declared.Coded.the-variants.{Code, Unknown, Missing}
 use Rattle.rows.specs.Forms.{direct, extended, relative}
 use Rattle.rows.specs.Lookup.{mergedOf, isCode, hasFormOf, codeOf}
 use Rattle.rows.specs.Sizes.{anyOf, isLong, numberAt, ofCode, numberSizeOf, between, longFrom, longOf}
-use Rattle.rows.specs.Quick.{memoryBytes, branchBytes, numberBytes}
-use Rattle.rows.proofs.Codes.{has-form-code, has-form-known}
+use Rattle.rows.specs.Quick.{numberDigit, numberBytes}
+use Rattle.rows.proofs.Codes.{has-form-code}
 use Rattle.rows.proofs.Laws.{decoded, row-small}
 use Rattle.rows.proofs.Bytes.{number-quick}
 use Rattle.rows.proofs.Lengths.{number-has-form}
@@ -89,35 +88,42 @@ short-page o p c e s = from (isLong p c) refl (number-at o relative p c e)
         (not-false (eqb p 0x00) (neither-left (not (eqb p 0x00)) (anyOf c (0x16 ∷ 0x17 ∷ [])) q))
 
 -- the quick way to a number's bytes
-quick : (o form k : ℕ) → hasFormOf o k ≡ true → numberBytes (mergedOf o) form ≡ numberSizeOf o form
-quick o form k h = sym (pick-true _ _ (has-form-known o k h)) ∙ number-quick o form (operation-small o k h)
+quick : (o form k : ℕ) → hasFormOf o k ≡ true → numberBytes (numberDigit o) form ≡ numberSizeOf o form
+quick o form k h = number-quick o form (operation-small o k h)
+
+-- an extended address has twice the bytes of a direct one, also where there are none
+twice : (t : Bool) {m n : ℕ} → pick t 1 0 ≡ m → pick t 2 0 ≡ n → n ≡ 2 * m
+unfolding pick
+twice true a b = omega arith
+twice false a b = omega arith
+
+address-sizes : (o k : ℕ) → hasFormOf o k ≡ true → numberSizeOf o extended ≡ 2 * numberSizeOf o direct
+unfolding numberBytes pick
+address-sizes o k h = twice (eqb (numberDigit o / 4) 1) (quick o direct k h) (quick o extended k h)
 
 -- a row that has Direct has Extended, and the other way round
 pub direct-extended : (o : ℕ) → hasFormOf o direct ≡ hasFormOf o extended
-unfolding numberBytes pick
 direct-extended o = alike (hasFormOf o direct) (hasFormOf o extended) there back refl refl
   where
     there : hasFormOf o direct ≡ true → hasFormOf o extended ≡ true
-    there h =
-        let a : memoryBytes (mergedOf o) ≡ numberSizeOf o direct = quick o direct direct h in
-        let b : 2 * memoryBytes (mergedOf o) ≡ numberSizeOf o extended = quick o extended direct h in
-        number-has-form o extended (omega (arith, direct-size o h, a, b))
+    there h = number-has-form o extended (omega (arith, direct-size o h, address-sizes o direct h))
 
     back : hasFormOf o extended ≡ true → hasFormOf o direct ≡ true
-    back h =
-        let a : memoryBytes (mergedOf o) ≡ numberSizeOf o direct = quick o direct extended h in
-        let b : 2 * memoryBytes (mergedOf o) ≡ numberSizeOf o extended = quick o extended extended h in
-        number-has-form o direct (omega (arith, extended-size o h, a, b))
+    back h = number-has-form o direct (omega (arith, extended-size o h, address-sizes o extended h))
 
     alike : (a b : Bool) → (hasFormOf o direct ≡ true → hasFormOf o extended ≡ true) → (hasFormOf o extended ≡ true → hasFormOf o direct ≡ true) → hasFormOf o direct ≡ a → hasFormOf o extended ≡ b → hasFormOf o direct ≡ hasFormOf o extended
     alike true b f g p q = p ∙ sym (f p)
     alike false true f g p q = g q ∙ sym q
     alike false false f g p q = p ∙ sym q
 
--- a row of a branch has no address: no operation has the bytes of both
-one-number : T (upto (λ (o : ℕ). eqb (memoryBytes o) 0 || eqb (branchBytes o) 0) 146)
-unfolding memoryBytes branchBytes pick
-one-number = tt
+-- a row of a branch has no address: the digit of its number is of one kind
+one-kind : (kind : ℕ) → pick {A = ℕ} (eqb kind 1) 2 0 ≡ 2 → pick (leb 2 kind) (kind - 1) 0 ≡ 0
+unfolding pick
+one-kind kind = from (eqb kind 1) refl
+  where
+    from : (t : Bool) → eqb kind 1 ≡ t → pick {A = ℕ} t 2 0 ≡ 2 → pick (leb 2 kind) (kind - 1) 0 ≡ 0
+    from true q a = rw (eqb-true kind 1 q)
+    from false q a = absurd (omega arith)
 
 pub branch-only : (o : ℕ) → hasFormOf o relative ≡ true → hasFormOf o extended ≡ false
 unfolding numberBytes pick
@@ -126,12 +132,8 @@ branch-only o h = from (hasFormOf o extended) refl
     from : (t : Bool) → hasFormOf o extended ≡ t → hasFormOf o extended ≡ false
     from false q = q
     from true q =
-        let a : 2 * memoryBytes (mergedOf o) ≡ numberSizeOf o extended = quick o extended relative h in
-        let b : branchBytes (mergedOf o) ≡ numberSizeOf o relative = quick o relative relative h in
-        let t = below (λ (k : ℕ). eqb (memoryBytes k) 0 || eqb (branchBytes k) 0) 146 one-number (mergedOf o) (merged-small o relative h) in
-        let m : memoryBytes (mergedOf o) ≡ 0 → ⊥ = λ z. omega (arith, z, a, extended-size o q) in
-        let none : branchBytes (mergedOf o) ≡ 0 = eqb→eq (branchBytes (mergedOf o)) 0 (rw (ne-eqb (memoryBytes (mergedOf o)) 0 m) at t) in
-        absurd (omega (arith, none, b, branch-size o h (λ two. omega (arith, none, b, two))))
+        let none : numberSizeOf o relative ≡ 0 = sym (quick o relative relative h) ∙ one-kind (numberDigit o / 4) (quick o extended relative h ∙ extended-size o q) in
+        absurd (omega (arith, none, branch-size o h (λ two. omega (arith, none, two))))
 
 -- a long branch is no alias
 long-plain : (o : ℕ) → mergedOf o < 146 → longOf o < 146
