@@ -29,7 +29,7 @@ lacking-none o form e =
     form-small (o .operation) form
     (not-false (hasFormOf (o .operation) form) (neither-left (not (hasFormOf (o .operation) form)) (strays (o .mode) form) e))
 
-abbrev made : Instruction → Made
+abbrev pub made : Instruction → Made
 made i = record { refusal = 0; instruction = i }
 
 record Makes (r : Record) (m : Made) : Type 0 where
@@ -52,21 +52,6 @@ make-makes r =
       has = l;
     }))
     (λ _ z. absurd (omega arith))
-
--- the instruction of the form that was asked for
-pub made-of :
-    (r : Record) {n form : ℕ} {i : Instruction} →
-    n ≡ makeOf r .refusal →
-    form ≡ makeOf r .instruction .form →
-    n ≡ 0 →
-    i ≡ instructionOf (r .operand) form →
-    makeOf r ≡ made i
-unfolding instructionOf
-made-of r en ef z ei =
-    let whole = make-makes r (sym en ∙ z) .whole in
-    whole
-    ∙ ap (λ (f : ℕ). made (instructionOf (r .operand) f)) (sym (ef ∙ ap (λ (m : Made). m .instruction .form) whole))
-    ∙ ap made (sym ei)
 
 pub made-whole : (r : Record) → makeOf r .refusal ≡ 0 → makeOf r ≡ made (instructionOf (r .operand) (formOf (r .operand) (r .values) (r .dirty)))
 made-whole r z = make-makes r z .whole

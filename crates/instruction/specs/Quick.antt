@@ -1,4 +1,5 @@
--- What a build asks first, so that it looks a row up once. Nothing here has to be believed: proofs/Quick.antt shows that it comes to what Building.antt defines.
+-- The quick ways of a build: what it asks first, so that it looks a row up once, and what it comes to without its operand. Nothing here has to be believed: proofs/Quick.antt
+-- shows that it comes to what Building.antt defines.
 use mathlib.Core.Path.{_≡_}
 use mathlib.Core.Bool.{Bool, true, _&&_, not}
 use Prim.Native.Nat.{ℕ}

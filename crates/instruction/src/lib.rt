@@ -63,12 +63,6 @@ pub struct Instruction {
     pub widened: bool,
 }
 
-// What making an instruction settles before it is made: a refusal, or the form.
-struct Asked {
-    refusal: u8,
-    form: u8,
-}
-
 pub struct Made {
     pub refusal: u8,
     pub instruction: Instruction,
@@ -190,30 +184,6 @@ fn unmade(n: u8) -> Made
     }
 }
 
-// The form that a record asks for: refused 1 where a number is wrong, then 2 where the row has no such mode.
-fn ask(r: Record) -> Asked
-    ensures refusal { λ a. ⌜ a .refusal ≡ makeOf r .refusal ⌝ }
-    ensures form { λ a. ⌜ a .form ≡ makeOf r .instruction .form ⌝ }
-{
-    let o = r.operand;
-    let v = r.values;
-    let known = is_recognised(o) & is_lawful(v);
-    if known {
-        let form = form_for(o, v, r.dirty);
-        if is_lacking(o, form) {
-            return Asked {
-                refusal: refusals::NO_SUCH_MODE,
-                form: 0,
-            };
-        }
-        return Asked { refusal: 0, form };
-    }
-    Asked {
-        refusal: refusals::UNKNOWN,
-        form: 0,
-    }
-}
-
 // Whether an instruction that is accepted dirties the page.
 fn dirties(o: Operand) -> bool
     ensures { λ r. ⌜ r ≡ dirtiesOf o ⌝ }
@@ -260,20 +230,25 @@ impl Operand {
 }
 
 impl Instruction {
-    // Makes an instruction of a record, refused as the record is.
+    // Makes an instruction of a record, in the form that it asks for: refused 1 where a number is wrong, then 2 where the row has no such mode.
     pub fn make(r: Record) -> Made
         ensures { λ m. ⌜ m ≡ makeOf r ⌝ }
     {
-        let asked = ask(r);
-        if asked.refusal != 0 {
-            return unmade(asked.refusal);
-        }
         let o = r.operand;
-        let instruction = instruction_of(o, asked.form);
-        Made {
-            refusal: 0,
-            instruction,
+        let v = r.values;
+        let known = is_recognised(o) & is_lawful(v);
+        if known {
+            let form = form_for(o, v, r.dirty);
+            if is_lacking(o, form) {
+                return unmade(refusals::NO_SUCH_MODE);
+            }
+            let instruction = instruction_of(o, form);
+            return Made {
+                refusal: 0,
+                instruction,
+            };
         }
+        unmade(refusals::UNKNOWN)
     }
 
     // The first refusal in 01's order, 0 where there is none. A row whose code was found is known and has the form, so that it is asked for 1 and 2 only if
@@ -396,7 +371,8 @@ fn handed(built: Built) -> Built
     built
 }
 
-// A fresh instruction, made and built from one record. What making refuses, the build refuses alike.
+// A fresh instruction, made and built from one record. What making refuses, the build refuses alike. It asks for the outcome itself, and not through `build`: what two
+// ask for stays a function of its own, and `build` is then small enough to be compiled into its callers.
 pub fn assemble(r: Record, address: u16) -> Built
     ensures { λ b. ⌜ b ≡ freshOf r address ⌝ }
 {
