@@ -37,10 +37,11 @@ use Rattle.instruction.specs.Records.{recognised, lawful}
 use Rattle.instruction.specs.Forms.{formOf, lacks}
 use Rattle.instruction.specs.Choosing.{chooseOf}
 use Rattle.instruction.specs.Bytes.{operandBytes, at, codeSize, behindCode, laidAt, laidOf}
-use Rattle.instruction.specs.Building.{earlyOf, acceptedOf, finishedOf, buildOf, handed, instructionOf, madeAs, makeOf, freshFrom, freshOf, bytesIn}
+use Rattle.instruction.specs.Building.{acceptedOf, buildOf, handed, instructionOf, madeAs, makeOf, freshFrom, freshOf, bytesIn}
 use Rattle.instruction.proofs.Padded.{Padded, empty, single, double, triple, operand-padded, build-five}
 use Rattle.instruction.proofs.Rows.{has-code, short-page}
 use Rattle.instruction.proofs.Fits.{Widens, Fits, build-chosen}
+use Rattle.instruction.proofs.Quick.{with-outcome}
 use Rattle.meanings.specs.Means.{kindOf, operationOf, meaningOf}
 use Rattle.meanings.specs.ReadBack.{readAs, ReadsBack, Decodes, Sized}
 use Rattle.meanings.proofs.Operands.{operand-back}
@@ -135,10 +136,7 @@ module _ (i : Instruction) (v : Values) (dirty : Bool) (address : ℕ) where
 
   -- the meaning is that of the instruction's own operand, which a build hands back as it was
   pub built-operand : buildOf i v dirty address .instruction .operand ≡ i .operand
-  unfolding buildOf finishedOf acceptedOf
-  built-operand =
-      let P : Built → Type 0 = λ b. b .instruction .operand ≡ i .operand in
-      by-pick P (eqb (earlyOf i v) 0) (by-pick P (eqb (chooseOf i v dirty address .refusal) 0) refl refl) refl
+  built-operand = ap (λ (b : Built). b .instruction .operand) (sym (with-outcome i v dirty address))
 
   pub built-sized : buildOf i v dirty address .refusal ≡ 0 → Sized (buildOf i v dirty address)
   built-sized z =
