@@ -30,6 +30,7 @@ use Rattle.instruction.specs.declared.Argument.the-variants.{Number}
 use Rattle.instruction.specs.Names.{modeRegister, modeOffset, modePcRelative, modeIncDec, modeDirect, pshs, puls}
 use Rattle.instruction.specs.Records.{stepped, recognised}
 use Rattle.instruction.specs.Forms.{becomesDirect}
+use Rattle.instruction.specs.Quick.{regular}
 use Rattle.instruction.specs.Choosing.{refuse, settled, inherentOf, immediateOf, forcedWide, leavesDirect, staysDirect, directlyOf, anewAs, anewOf, addressOf, longBranch, branchOf, registerAt, accumulatorIndex, offsetIndex, targetIndex, stepIndex, addressIndex, indexOf, isPair, ownStack, listedOf, registersOf, chooseOf}
 use Rattle.instruction.proofs.Tests.{or-left, or-right}
 use Rattle.instruction.proofs.Formed.{isMemory}
@@ -45,12 +46,15 @@ own-stack : (o : ℕ) → notStack (ownStack o) ≡ false
 unfolding ownStack
 own-stack o = by-pick (λ (own : ℕ). notStack own ≡ false) (eqb o pshs || eqb o puls) refl refl
 
-pub not-strange : (o : Operand) → recognised o ≡ true → strangeList (o .registers) (o .count) ≡ false
-unfolding recognised
-not-strange o known =
+pub regular-named : (o : Operand) → regular o ≡ true → strangeList (o .registers) (o .count) ≡ false
+unfolding regular
+regular-named o whole =
     let strange = strangeList (o .registers) (o .count) in
-    let moded = both-second (knownOf (o .operation)) (ltb (o .mode) 8 && (not strange && stepped o)) known in
-    not-true strange (both-first (not strange) (stepped o) (both-second (ltb (o .mode) 8) (not strange && stepped o) moded))
+    not-true strange (both-first (not strange) (stepped o) (both-second (ltb (o .mode) 8) (not strange && stepped o) whole))
+
+pub not-strange : (o : Operand) → recognised o ≡ true → strangeList (o .registers) (o .count) ≡ false
+unfolding recognised regular
+not-strange o known = regular-named o (both-second (knownOf (o .operation)) (regular o) known)
 
 listed-told : (o : Operand) → strangeList (o .registers) (o .count) ≡ false → (listedOf o .refusal ≡ 0 → ⊥) → Told (listedOf o .refusal)
 unfolding listedOf pairedOf pushOf pick

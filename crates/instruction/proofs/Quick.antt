@@ -9,7 +9,6 @@ use borrow.Author.Tests.{eqb-true, eqb-false, ne-eqb, ltb-true, not-true}
 use Rattle.ground.specs.Choice.{pick}
 use Rattle.ground.proofs.Choices.{by-pick}
 use Rattle.ground.proofs.Tests.{both-first, both-second}
-use Rattle.values.specs.Widths.{validOf}
 use Rattle.rows.specs.declared.Coded.{Coded}
 use Rattle.rows.specs.Forms.{direct, extended, relative}
 use Rattle.rows.specs.Lookup.{mergedOf, isCode, hasFormOf, codeOf}
@@ -23,7 +22,7 @@ use Rattle.instruction.specs.declared.Instruction.{Instruction}
 use Rattle.instruction.specs.declared.Chosen.{Chosen}
 use Rattle.instruction.specs.declared.Laid.{Laid}
 use Rattle.instruction.specs.declared.Built.{Built}
-use Rattle.instruction.specs.Records.{stepped, recognised, agreeing, lawful, sound}
+use Rattle.instruction.specs.Records.{recognised, lawful, sound}
 use Rattle.instruction.specs.Forms.{strays, lacks, needsValue}
 use Rattle.instruction.specs.Choosing.{longBranch, chooseOf}
 use Rattle.instruction.specs.Bytes.{laidAt, laidOf}
@@ -31,7 +30,7 @@ use Rattle.instruction.specs.Building.{earlyOf, dirtiesOf, refusedWith, 
 use Rattle.instruction.specs.Quick.{regular, matched, misses, valued, fit, CodeTells, firstRefusal, outcomeOf, withOutcome}
 use Rattle.instruction.proofs.Rows.{direct-extended}
 use Rattle.instruction.proofs.Formed.{isMemory}
-use Rattle.instruction.proofs.Choice.{choice, address-choice}
+use Rattle.instruction.proofs.Choice.{regular-named, choice, address-choice}
 
 -- ---- the rows of what is chosen
 -- a row has both memory forms or none
@@ -75,10 +74,7 @@ lawful-valued : (i : Instruction) (v : Values) → valued i v ≡ true → lawfu
 unfolding valued lawful matched pick
 lawful-valued i v = go (v .given)
   where
-    m : Bool
-    m = validOf (v .unsigned) && (validOf (v .signed) && agreeing v)
-
-    go : (t : Bool) → pick t m (not (needsValue (i .operand .mode) (i .form))) ≡ true → (not t || m) ≡ true
+    go : (t : Bool) → pick t (matched v) (not (needsValue (i .operand .mode) (i .form))) ≡ true → (not t || matched v) ≡ true
     go true h = h
     go false h = refl
 
@@ -122,13 +118,10 @@ pub code-tells :
     c ≡ chooseOf i v dirty address →
     coded ≡ codeOf (c .operation) (c .form) →
     CodeTells i v c coded
-unfolding regular
 code-tells i v dirty address c coded small ec ed f k z =
     let fits = fit-leaves i v f in
-    let o = i .operand in
-    let named = not-true (strangeList (o .registers) (o .count)) (both-first (not (strangeList (o .registers) (o .count))) (stepped o) (both-second (ltb (o .mode) 8) (not (strangeList (o .registers) (o .count)) && stepped o) (fits .fields))) in
     let h : hasFormOf (c .operation) (c .form) ≡ true = has-form-code (c .operation) (c .form) ∙ ap isCode (sym ed) ∙ k in
-    chosen-row i v dirty address small named (ltb-true (i .form) 7 (fits .small))
+    chosen-row i v dirty address small (regular-named (i .operand) (fits .fields)) (ltb-true (i .form) 7 (fits .small))
     (ap (λ (x : Chosen). x .refusal) (sym ec) ∙ z)
     (ap (λ (x : Chosen). hasFormOf (x .operation) (x .form)) (sym ec) ∙ h)
 

@@ -2,7 +2,7 @@
 -- antt computes.
 -- Assumes nothing.
 use mathlib.Core.Path.{_≡_, _∙_, refl, sym, ap}
-use mathlib.Core.Bool.{Bool, true, false, _&&_, not}
+use mathlib.Core.Bool.{Bool, true, false, _&&_, not, and-false}
 use mathlib.Core.List.{List, [], _∷_}
 use Prim.Native.Nat.{ℕ, _+_, _<_, _≤_}
 use native.Mathlib.Omega.{arith}
@@ -79,10 +79,6 @@ unfolding formedOf pick
 no-form-formed o form h =
     rw (ne-eqb form 0 (omega arith), ne-eqb form 3 (omega arith), ne-eqb form 6 (omega arith), no-bytes (numberDigit o) form h)
 
-either-false : (t : Bool) → (t && false) ≡ false
-either-false true = refl
-either-false false = refl
-
 pub form-quick : (o form : ℕ) → o < 256 → (knownOf o && formedOf (mergedOf o) form) ≡ hasFormOf o form
 unfolding formAgrees hasFormOf
 form-quick o form h = rw (← known-quick o h) (known (ltb form 7) refl)
@@ -93,7 +89,7 @@ form-quick o form h = rw (← known-quick o h) (known (ltb form 7) refl)
         (below (formAgrees o) 7 (below (λ (n : ℕ). upto (formAgrees n) 7) 256 forms-agree o h) form (ltb-true form 7 e))
         ∙ ap isCode (code-agrees o form h)
     known false e =
-        rw (no-form-formed (mergedOf o) form (ltb-false form 7 e), placed-none o form (ltb-false form 7 e)) (either-false (quickKnown o))
+        rw (no-form-formed (mergedOf o) form (ltb-false form 7 e), placed-none o form (ltb-false form 7 e)) (and-false (quickKnown o))
 
 pub operand-small : (o : ℕ) → operandBytes o ≤ 2
 unfolding operandBytes

@@ -44,9 +44,6 @@ number-has-form o form h = has-form-code o form ∙ from (codeOf o form) h
 abbrev distance : ℕ → ℕ
 distance o = numberBytes (numberDigit o) 5
 
-distance-is : (o : ℕ) → o < 256 → distance o ≡ numberSizeOf o 5
-distance-is o h = number-quick o 5 h
-
 longRight : ℕ → Bool
 longRight o = pick (eqb (distance o) 1) (eqb (distance (longOf o)) 2) (eqb (longOf o) (mergedOf o))
 
@@ -65,12 +62,12 @@ pub long-of-short : (o : ℕ) → o < 256 → numberSizeOf o 5 ≡ 1 → numberS
 unfolding longRight pick
 long-of-short o h e =
     let t = both-left (longRight o) (ltb (longOf o) 256) (right-at o h) in
-    sym (distance-is (longOf o) (long-small o h))
-    ∙ eqb→eq (distance (longOf o)) 2 (rw (eq-eqb (distance o) 1 (distance-is o h ∙ e)) at t)
+    sym (number-quick (longOf o) 5 (long-small o h))
+    ∙ eqb→eq (distance (longOf o)) 2 (rw (eq-eqb (distance o) 1 (number-quick o 5 h ∙ e)) at t)
 
 -- any other operation is its own, merged
 pub long-of-other : (o : ℕ) → o < 256 → (numberSizeOf o 5 ≡ 1 → ⊥) → longOf o ≡ mergedOf o
 unfolding longRight pick
 long-of-other o h n =
     let t = both-left (longRight o) (ltb (longOf o) 256) (right-at o h) in
-    eqb→eq (longOf o) (mergedOf o) (rw (ne-eqb (distance o) 1 (λ e. n (sym (distance-is o h) ∙ e))) at t)
+    eqb→eq (longOf o) (mergedOf o) (rw (ne-eqb (distance o) 1 (λ e. n (sym (number-quick o 5 h) ∙ e))) at t)
