@@ -7,6 +7,7 @@ use mathlib.Core.Logic.{⊎-elim}
 use Prim.Native.Nat.{ℕ}
 use lib.Dec.{eqb}
 use Rattle.ground.specs.Choice.{pick}
+use Rattle.values.specs.declared.pages.Page.{Page}
 use Rattle.rows.specs.Forms.{direct, extended}
 use Rattle.instruction.specs.declared.Operand.{Operand}
 use Rattle.instruction.specs.declared.Values.{Values}
@@ -31,13 +32,13 @@ outOf o n c address =
     (refusedWith noInstruction n)
 
 pub handed-out :
-    (i : Instruction) (v : Values) (dirty : Bool) (address : ℕ) →
-    handed (buildOf i v dirty address) ≡ outOf (i .operand) (earlyOf i v) (chooseOf i v dirty address) address
+    (i : Instruction) (v : Values) (page : Page) (address : ℕ) →
+    handed (buildOf i v page address) ≡ outOf (i .operand) (earlyOf i v) (chooseOf i v page address) address
 unfolding handed buildOf finishedOf acceptedOf pick
-handed-out i v dirty address = go (eqb (earlyOf i v) 0) refl (eqb (c .refusal) 0) refl
+handed-out i v page address = go (eqb (earlyOf i v) 0) refl (eqb (c .refusal) 0) refl
   where
     c : Chosen
-    c = chooseOf i v dirty address
+    c = chooseOf i v page address
 
     go :
         (s : Bool) → eqb (earlyOf i v) 0 ≡ s → (t : Bool) → eqb (c .refusal) 0 ≡ t →
@@ -56,25 +57,25 @@ module _ (o : Operand) (fr : Free o) (i : Instruction) (m : isMemory (i .form) �
 
   -- so what it hands out hangs on the operand alone
   free-out :
-      (v : Values) (dirty : Bool) (address : ℕ) →
-      handed (buildOf i v dirty address)
-      ≡ outOf o (earlyOf (plain o extended) v) (anew o fr i m e w v dirty) address
-  free-out v dirty address = rw (handed-out i v dirty address, early-extended v, chosen-anew o fr i m e w v dirty address, e)
+      (v : Values) (page : Page) (address : ℕ) →
+      handed (buildOf i v page address)
+      ≡ outOf o (earlyOf (plain o extended) v) (anew o fr i m e w v page) address
+  free-out v page address = rw (handed-out i v page address, early-extended v, chosen-anew o fr i m e w v page address, e)
 
 -- ---- each build as a fresh one
 kept-fresh : (o : Operand) (i : Instruction) → Kept o i → i .widened ≡ false → (p : Present) → handed (builtWith i p) ≡ freshWith o p
 unfolding instructionOf
-kept-fresh o i k short p = go k ∙ sym (fresh-built (record { operand = o; dirty = p .dirty; values = p .values }) (p .address))
+kept-fresh o i k short p = go k ∙ sym (fresh-built (record { operand = o; page = p .page; values = p .values }) (p .address))
   where
     v : Values
     v = p .values
 
-    d : Bool
-    d = p .dirty
+    page : Page
+    page = p .page
 
-    go : Kept o i → handed (builtWith i p) ≡ handed (builtWith (instructionOf o (formOf o v d)) p)
-    go (steady f s e) = ap (λ (j : Instruction). handed (builtWith j p)) (e ∙ sym (rw (s .always v d, s .unmarked)))
-    go (free f m e w) = free-out o f i m e w v d (p .address) ∙ sym (free-out o f (instructionOf o (formOf o v d)) (one-of-two o f v d) refl refl v d (p .address))
+    go : Kept o i → handed (builtWith i p) ≡ handed (builtWith (instructionOf o (formOf o v page)) p)
+    go (steady f s e) = ap (λ (j : Instruction). handed (builtWith j p)) (e ∙ sym (rw (s .always v page, s .unmarked)))
+    go (free f m e w) = free-out o f i m e w v page (p .address) ∙ sym (free-out o f (instructionOf o (formOf o v page)) (one-of-two o f v page) refl refl v page (p .address))
     go (long b e) = absurd (true≢false (sym (ap (λ (j : Instruction). j .widened) e) ∙ short))
 
 pub as-fresh : AsFresh

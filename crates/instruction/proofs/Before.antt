@@ -6,6 +6,8 @@ use mathlib.Core.Bool.{Bool, true, false, not, _&&_, _||_, false≢true}
 use Prim.Native.Nat.{ℕ}
 use lib.Dec.{eqb}
 use Rattle.ground.specs.Choice.{pick}
+use Rattle.values.specs.declared.pages.Page.{Page}
+use Rattle.values.specs.declared.pages.Page.the-variants.{Unknown}
 use Rattle.rows.specs.Forms.{direct, extended, relative}
 use Rattle.rows.specs.Lookup.{hasFormOf}
 use Rattle.instruction.specs.declared.Operand.{Operand}
@@ -35,14 +37,14 @@ pub lacks-alike : (o : Operand) → lacks o direct ≡ lacks o extended
 unfolding lacks strays
 lacks-alike o = ap (λ (t : Bool). not t || false) (direct-extended (o .operation))
 
-pub lacks-same : (o : Operand) (v w : Values) (dirty page : Bool) → lacks o (formOf o v dirty) ≡ lacks o (formOf o w page)
+pub lacks-same : (o : Operand) (v w : Values) (page other : Page) → lacks o (formOf o v page) ≡ lacks o (formOf o w other)
 unfolding formOf extendedForm
-lacks-same o v w dirty page =
+lacks-same o v w page other =
     of-choice (lacks o) (eqb (o .mode) modeRegister) refl
     (of-choice (lacks o) (eqb (o .mode) modeExtended)
     (of-choice (lacks o) (o .indirect) refl
     (of-choice (lacks o) (not (hasFormOf (o .operation) extended) && hasFormOf (o .operation) relative) refl
-    (of-either (lacks o) (becomesDirect o v dirty) (becomesDirect o w page) direct extended (lacks-alike o))))
+    (of-either (lacks o) (becomesDirect o v page) (becomesDirect o w other) direct extended (lacks-alike o))))
     refl)
 
 -- with lawful values, making refuses as the operand alone does
@@ -57,10 +59,10 @@ make-refusal r h = from (recognised (r .operand)) (lawful (r .values)) h
     from :
         (k l : Bool) →
         l ≡ true →
-        pick (k && l) (madeAs (r .operand) (formOf (r .operand) (r .values) (r .dirty))) (unmade 1) .refusal
-        ≡ pick k (pick (lacks (r .operand) (formOf (r .operand) noValues false)) 2 0) 1
+        pick (k && l) (madeAs (r .operand) (formOf (r .operand) (r .values) (r .page))) (unmade 1) .refusal
+        ≡ pick k (pick (lacks (r .operand) (formOf (r .operand) noValues Unknown)) 2 0) 1
     from k false e = absurd (false≢true e)
     from false true e = refl
     from true true e =
-        number (lacks (r .operand) (formOf (r .operand) (r .values) (r .dirty))) _ refl
-        ∙ ap (λ (t : Bool). pick {A = ℕ} t 2 0) (lacks-same (r .operand) (r .values) noValues (r .dirty) false)
+        number (lacks (r .operand) (formOf (r .operand) (r .values) (r .page))) _ refl
+        ∙ ap (λ (t : Bool). pick {A = ℕ} t 2 0) (lacks-same (r .operand) (r .values) noValues (r .page) Unknown)

@@ -7,6 +7,8 @@ use Prim.Native.Nat.{ℕ}
 use lib.Dec.{eqb}
 use lib.ListN.{take}
 use Rattle.ground.specs.Choice.{pick}
+use Rattle.values.specs.declared.pages.Page.{Page}
+use Rattle.values.specs.declared.pages.Page.the-variants.{Unknown, Known}
 use Rattle.values.specs.Widths.{bitsOf, extended, validOf, signExtendedOf}
 use Rattle.rows.specs.Sheet.{page0, page10, page11, tableOf}
 use Rattle.rows.specs.Lookup.{mergedOf, placed, hasFormOf, knownOf, codeOf}
@@ -22,21 +24,21 @@ use Rattle.instruction.specs.declared.Record.{Record}
 use Rattle.instruction.specs.declared.Built.{Built}
 use Rattle.instruction.specs.Names.{modeRegister, modeOffset, modePcRelative, modeIncDec, modeExtended, modeDirect, modeImmediate}
 use Rattle.instruction.specs.Records.{stepped, recognised, narrower, agreeing, lawful, sound}
-use Rattle.instruction.specs.Forms.{onPage, becomesDirect, extendedForm, registerForm, formOf, strays, lacks, needsValue}
+use Rattle.instruction.specs.Forms.{becomesDirect, extendedForm, registerForm, formOf, strays, lacks, needsValue}
 use Rattle.instruction.specs.Choosing.{immediateOf, forcedWide, leavesDirect, staysDirect, directlyOf, anewAs, anewOf, addressOf, longBranch, branchOf, offsetValue, offsetIndex, targetIndex, stepIndex, indexOf, isPair, ownStack, listedOf, registersOf, chooseOf}
 use Rattle.instruction.specs.Bytes.{numberBytes, operandBytes, codeSize, behindCode, laidAt, laidOf}
 use Rattle.instruction.specs.Building.{instructionOf, madeAs, makeOf, earlyOf, dirtiesOf, acceptedOf, finishedOf, buildOf, handed, freshFrom, freshOf}
 
--- what a build says: its bytes, with the page left dirty or not, or its refusal
+-- what a build says: its bytes, with the page left unknown or not, or its refusal
 pub data Answer : Type 0 where
   bytes : List ℕ → Answer
-  dirtying : List ℕ → Answer
+  forgetting : List ℕ → Answer
   refused : ℕ → Answer
 
 abbrev said : Built → Answer
 said b =
     pick (eqb (b .refusal) 0)
-    (pick (b .dirties) (dirtying (take (b .length) (b .bytes))) (bytes (take (b .length) (b .bytes))))
+    (pick (b .dirties) (forgetting (take (b .length) (b .bytes))) (bytes (take (b .length) (b .bytes))))
     (refused (b .refusal))
 
 -- a value with its unsigned and its signed evaluation, each of a width
@@ -110,22 +112,22 @@ fixed o = record {
   widening = false;
 }
 
--- an operand with its value, on a clean page (false) or a dirty one (true); an instruction made of it and built again and again, its value another each
--- time, of which the last build answers. All at 0100.
+-- an operand with its value, under a page; an instruction made of it and built again and again, its value another each time, of which the last build answers.
+-- All at 0100.
 pub data Question : Type 0 where
-  fresh : Bool → Operand → Values → Question
-  again : Bool → Operand → Values → List Values → Question
+  fresh : Page → Operand → Values → Question
+  again : Page → Operand → Values → List Values → Question
 
-abbrev record-of : Bool → Operand → Values → Record
-record-of dirty o v = record { operand = o; dirty = dirty; values = v }
+abbrev record-of : Page → Operand → Values → Record
+record-of page o v = record { operand = o; page = page; values = v }
 
-abbrev last : Built → List Values → Built
-last b [] = b
-last b (v ∷ vs) = last (buildOf (b .instruction) v false 0x0100) vs
+abbrev last : Page → Built → List Values → Built
+last page b [] = b
+last page b (v ∷ vs) = last page (buildOf (b .instruction) v page 0x0100) vs
 
 abbrev ask : Question → Answer
-ask (fresh dirty o v) = said (freshOf (record-of dirty o v) 0x0100)
-ask (again dirty o v vs) = said (last (freshOf (record-of dirty o v) 0x0100) vs)
+ask (fresh page o v) = said (freshOf (record-of page o v) 0x0100)
+ask (again page o v vs) = said (last page (freshOf (record-of page o v) 0x0100) vs)
 
 -- operations by number (docs/ROWS.md)
 abbrev lda : ℕ
@@ -139,28 +141,28 @@ abbrev on : ℕ → ℕ → Operand
 on mode r = operand lda mode 1 r 0
 
 abbrev to : ℕ → ℕ → Question
-to o target = fresh false (operand o modeExtended 0 0 0) (address16 target)
+to o target = fresh (Known 0) (operand o modeExtended 0 0 0) (address16 target)
 
 -- `LDA` 0,X; 15,Y; 8-bit 16,Y; -16,U; 8-bit -17,U; 16-bit 128,S; 8-bit [5,X]; 0182,PCR; 0183,PCR; [,X+]
 -- `BRA` 0181; 0182; 0082; 0081. Clean `LDA $FF`, dirty `LDA $FF`
 abbrev asked : List Question
 asked =
-    fresh false (on modeOffset X) (valued 8 0 8 0) ∷
-    fresh false (on modeOffset Y) (valued 8 15 8 15) ∷
-    fresh false (on modeOffset Y) (valued 8 16 8 16) ∷
-    fresh false (on modeOffset U) (valued 16 0xFFF0 8 0xF0) ∷
-    fresh false (on modeOffset U) (valued 16 0xFFEF 8 0xEF) ∷
-    fresh false (on modeOffset S) (valued 8 128 16 128) ∷
-    fresh false (indirect (on modeOffset X)) (valued 8 5 8 5) ∷
-    fresh false (on modePcRelative PC) (address16 0x0182) ∷
-    fresh false (on modePcRelative PC) (address16 0x0183) ∷
-    fresh false (indirect (stepping 1 (on modeIncDec X))) missing ∷
+    fresh (Known 0) (on modeOffset X) (valued 8 0 8 0) ∷
+    fresh (Known 0) (on modeOffset Y) (valued 8 15 8 15) ∷
+    fresh (Known 0) (on modeOffset Y) (valued 8 16 8 16) ∷
+    fresh (Known 0) (on modeOffset U) (valued 16 0xFFF0 8 0xF0) ∷
+    fresh (Known 0) (on modeOffset U) (valued 16 0xFFEF 8 0xEF) ∷
+    fresh (Known 0) (on modeOffset S) (valued 8 128 16 128) ∷
+    fresh (Known 0) (indirect (on modeOffset X)) (valued 8 5 8 5) ∷
+    fresh (Known 0) (on modePcRelative PC) (address16 0x0182) ∷
+    fresh (Known 0) (on modePcRelative PC) (address16 0x0183) ∷
+    fresh (Known 0) (indirect (stepping 1 (on modeIncDec X))) missing ∷
     to bra 0x0181 ∷
     to bra 0x0182 ∷
     to bra 0x0082 ∷
     to bra 0x0081 ∷
-    fresh false (operand lda modeExtended 0 0 0) (valued 8 0xFF 16 0xFF) ∷
-    fresh true (operand lda modeExtended 0 0 0) (valued 8 0xFF 16 0xFF) ∷
+    fresh (Known 0) (operand lda modeExtended 0 0 0) (valued 8 0xFF 16 0xFF) ∷
+    fresh Unknown (operand lda modeExtended 0 0 0) (valued 8 0xFF 16 0xFF) ∷
     []
 
 abbrev answered : List Answer
@@ -184,7 +186,7 @@ answered =
     []
 
 pub cases : map ask asked ≡ answered
-unfolding pick bitsOf extended validOf signExtendedOf tableOf page0 page10 page11 mergedOf placed hasFormOf knownOf codeOf isWide isLong numberAt numberSizeOf longFrom longOf anyUnknown strangeList among marked sizedOf constantOf offsetOf relativeOf stepped recognised narrower agreeing lawful sound onPage becomesDirect extendedForm registerForm formOf strays lacks needsValue directlyOf anewAs anewOf addressOf longBranch branchOf offsetValue offsetIndex targetIndex stepIndex indexOf chooseOf numberBytes operandBytes codeSize behindCode laidAt laidOf instructionOf madeAs makeOf earlyOf dirtiesOf acceptedOf finishedOf buildOf handed freshFrom freshOf
+unfolding pick bitsOf extended validOf signExtendedOf tableOf page0 page10 page11 mergedOf placed hasFormOf knownOf codeOf isWide isLong numberAt numberSizeOf longFrom longOf anyUnknown strangeList among marked sizedOf constantOf offsetOf relativeOf stepped recognised narrower agreeing lawful sound becomesDirect extendedForm registerForm formOf strays lacks needsValue directlyOf anewAs anewOf addressOf longBranch branchOf offsetValue offsetIndex targetIndex stepIndex indexOf chooseOf numberBytes operandBytes codeSize behindCode laidAt laidOf instructionOf madeAs makeOf earlyOf dirtiesOf acceptedOf finishedOf buildOf handed freshFrom freshOf
 cases = refl
 
 -- a long branch; a branch that stays long once it was made long, and one that may not be made long
@@ -194,23 +196,23 @@ cases = refl
 pub further :
     map ask
     (to 96 0x0181 ∷
-    again false (operand bra modeExtended 0 0 0) (address16 0x0181) (address16 0x0182 ∷ address16 0x0181 ∷ []) ∷
-    fresh false (fixed (operand bra modeExtended 0 0 0)) (address16 0x0182) ∷
-    again false (operand lda modeExtended 0 0 0) (valued 8 0x10 8 0x10) (address16 0x1000 ∷ []) ∷
-    again false (operand lda modeExtended 0 0 0) (valued 8 0x10 8 0x10) (address16 0x1000 ∷ valued 8 0x10 8 0x10 ∷ []) ∷
-    again false (operand lda modeExtended 0 0 0) (valued 8 0x10 8 0x10) (address16 0x1000 ∷ valued 8 0x10 8 0x10 ∷ address16 0x1000 ∷ []) ∷
-    again false (operand lda modeExtended 0 0 0) (address16 0x1000) (valued 8 0x10 8 0x10 ∷ address16 0x1000 ∷ []) ∷
-    again false (operand lda modeExtended 0 0 0) (valued 8 0x10 8 0x10) (missing ∷ address16 0x1000 ∷ []) ∷
-    fresh false (operand lda modeDirect 0 0 0) (address16 0x0100) ∷
-    again false (operand lda modeDirect 0 0 0) (valued 8 0x10 8 0x10) (address16 0x1000 ∷ valued 8 0x10 8 0x10 ∷ []) ∷
-    fresh false (forced (operand lda modeDirect 0 0 0)) (address16 0x0010) ∷
-    fresh false (operand 138 modeRegister 1 S 0) missing ∷
-    fresh false (operand 137 modeRegister 2 A DP) missing ∷
-    fresh false (operand 12 modeImmediate 0 0 0) (valued 8 1 8 1) ∷
-    fresh false (operand 1 modeImmediate 0 0 0) (valued 8 1 8 1) ∷
-    fresh false (operand lda modeImmediate 0 0 0) (valued 7 1 8 1) ∷
-    fresh false (operand lda modeImmediate 0 0 0) (address16 0xFFFF) ∷
-    fresh false (operand 62 modeImmediate 0 0 0) (valued 8 0xFF 16 0xFF) ∷
+    again (Known 0) (operand bra modeExtended 0 0 0) (address16 0x0181) (address16 0x0182 ∷ address16 0x0181 ∷ []) ∷
+    fresh (Known 0) (fixed (operand bra modeExtended 0 0 0)) (address16 0x0182) ∷
+    again (Known 0) (operand lda modeExtended 0 0 0) (valued 8 0x10 8 0x10) (address16 0x1000 ∷ []) ∷
+    again (Known 0) (operand lda modeExtended 0 0 0) (valued 8 0x10 8 0x10) (address16 0x1000 ∷ valued 8 0x10 8 0x10 ∷ []) ∷
+    again (Known 0) (operand lda modeExtended 0 0 0) (valued 8 0x10 8 0x10) (address16 0x1000 ∷ valued 8 0x10 8 0x10 ∷ address16 0x1000 ∷ []) ∷
+    again (Known 0) (operand lda modeExtended 0 0 0) (address16 0x1000) (valued 8 0x10 8 0x10 ∷ address16 0x1000 ∷ []) ∷
+    again (Known 0) (operand lda modeExtended 0 0 0) (valued 8 0x10 8 0x10) (missing ∷ address16 0x1000 ∷ []) ∷
+    fresh (Known 0) (operand lda modeDirect 0 0 0) (address16 0x0100) ∷
+    again (Known 0) (operand lda modeDirect 0 0 0) (valued 8 0x10 8 0x10) (address16 0x1000 ∷ valued 8 0x10 8 0x10 ∷ []) ∷
+    fresh (Known 0) (forced (operand lda modeDirect 0 0 0)) (address16 0x0010) ∷
+    fresh (Known 0) (operand 138 modeRegister 1 S 0) missing ∷
+    fresh (Known 0) (operand 137 modeRegister 2 A DP) missing ∷
+    fresh (Known 0) (operand 12 modeImmediate 0 0 0) (valued 8 1 8 1) ∷
+    fresh (Known 0) (operand 1 modeImmediate 0 0 0) (valued 8 1 8 1) ∷
+    fresh (Known 0) (operand lda modeImmediate 0 0 0) (valued 7 1 8 1) ∷
+    fresh (Known 0) (operand lda modeImmediate 0 0 0) (address16 0xFFFF) ∷
+    fresh (Known 0) (operand 62 modeImmediate 0 0 0) (valued 8 0xFF 16 0xFF) ∷
     [])
     ≡ bytes (0x16 ∷ 0x00 ∷ 0x7E ∷ []) ∷
     bytes (0x16 ∷ 0x00 ∷ 0x7E ∷ []) ∷
@@ -224,12 +226,12 @@ pub further :
     bytes (0x96 ∷ 0x10 ∷ []) ∷
     refused 6 ∷
     refused 4 ∷
-    dirtying (0x1F ∷ 0x8B ∷ []) ∷
+    forgetting (0x1F ∷ 0x8B ∷ []) ∷
     refused 2 ∷
     refused 1 ∷
     refused 1 ∷
     refused 6 ∷
     bytes (0x8E ∷ 0x00 ∷ 0xFF ∷ []) ∷
     []
-unfolding pick bitsOf validOf tableOf page0 page10 page11 mergedOf placed hasFormOf knownOf codeOf isWide isLong numberAt numberSizeOf longFrom longOf anyUnknown strangeList among sizeOf pushOf pairedOf written.codeOf stepped recognised narrower agreeing lawful sound onPage becomesDirect extendedForm registerForm formOf strays lacks needsValue immediateOf forcedWide leavesDirect staysDirect directlyOf anewAs anewOf addressOf longBranch branchOf isPair ownStack listedOf registersOf chooseOf numberBytes operandBytes codeSize behindCode laidAt laidOf instructionOf madeAs makeOf earlyOf dirtiesOf acceptedOf finishedOf buildOf handed freshFrom freshOf
+unfolding pick bitsOf validOf tableOf page0 page10 page11 mergedOf placed hasFormOf knownOf codeOf isWide isLong numberAt numberSizeOf longFrom longOf anyUnknown strangeList among sizeOf pushOf pairedOf written.codeOf stepped recognised narrower agreeing lawful sound becomesDirect extendedForm registerForm formOf strays lacks needsValue immediateOf forcedWide leavesDirect staysDirect directlyOf anewAs anewOf addressOf longBranch branchOf isPair ownStack listedOf registersOf chooseOf numberBytes operandBytes codeSize behindCode laidAt laidOf instructionOf madeAs makeOf earlyOf dirtiesOf acceptedOf finishedOf buildOf handed freshFrom freshOf
 further = refl

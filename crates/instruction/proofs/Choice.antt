@@ -13,6 +13,8 @@ use Rattle.ground.specs.Refusals.{badRegister, singleStepIndirect, badWidth, di
 use Rattle.ground.specs.Words.{plus, minus}
 use Rattle.ground.proofs.Choices.{by-test, by-pick}
 use Rattle.ground.proofs.Tests.{both-first, both-second, neither-left, neither-right}
+use Rattle.values.specs.declared.pages.Page.{Page}
+use Rattle.values.specs.Pages.{reaches}
 use Rattle.rows.specs.Forms.{inherent, immediate, direct, indexed, extended, relative, register}
 use Rattle.rows.specs.Lookup.{knownOf}
 use Rattle.rows.specs.Sizes.{numberSizeOf}
@@ -77,13 +79,13 @@ last-form f h a b c d e g =
     eq-eqb f 6 (omega arith)
 
 -- ---- every form
-module _ (i : Instruction) (v : Values) (dirty : Bool) (address : ℕ) (P : Chosen → Type 0)
+module _ (i : Instruction) (v : Values) (page : Page) (address : ℕ) (P : Chosen → Type 0)
     (no : (n : ℕ) → Told n → P (refuse n))
     (same : (form : ℕ) (a : Argument) → eqb (i .form) form ≡ true → P (settled i form a))
     (long :
     eqb (i .form) relative ≡ true → eqb (numberSizeOf (i .operand .operation) relative) 2 ≡ false → (i .widened || i .operand .widening) ≡ true →
     P (longBranch i v))
-    (memory : (eqb (i .form) direct || eqb (i .form) extended) ≡ true → P (addressOf i v dirty)) where
+    (memory : (eqb (i .form) direct || eqb (i .form) extended) ≡ true → P (addressOf i v page)) where
   index-choice : eqb (i .form) indexed ≡ true → P (indexOf i v)
   unfolding indexOf accumulatorIndex offsetIndex targetIndex stepIndex addressIndex
   index-choice q =
@@ -111,7 +113,7 @@ module _ (i : Instruction) (v : Values) (dirty : Bool) (address : ℕ) (P : Chos
       (λ _. by-pick P (nearOf (minus (v .unsigned .number) (plus address 2))) (same relative _ q)
       (by-test P a (λ t. long q s (or-right w a t)) (λ _. no branchTooFar (omega arith)))))
 
-  pub choice : strangeList (i .operand .registers) (i .operand .count) ≡ false → i .form < 7 → P (chooseOf i v dirty address)
+  pub choice : strangeList (i .operand .registers) (i .operand .count) ≡ false → i .form < 7 → P (chooseOf i v page address)
   unfolding chooseOf inherentOf immediateOf registersOf
   choice h small =
       let f = i .form in
@@ -127,22 +129,22 @@ module _ (i : Instruction) (v : Values) (dirty : Bool) (address : ℕ) (P : Chos
       (λ r. no l (listed-told (i .operand) h (eqb-false l 0 r))))))))
 
 -- ---- Direct and Extended
-module _ (i : Instruction) (v : Values) (dirty : Bool) (P : Chosen → Type 0)
+module _ (i : Instruction) (v : Values) (page : Page) (P : Chosen → Type 0)
     (some :
     (form : ℕ) (trial : Bool) → isMemory form ≡ true →
     P (record { refusal = 0; operation = i .operand .operation; form = form; trial = trial; widened = i .widened; argument = Number (v .unsigned .number) }))
     (six : P (refuse badWidth))
     (seven :
-    eqb (i .operand .mode) modeDirect ≡ true → eqb (i .form) direct ≡ true → (dirty || ltb 255 (v .unsigned .number)) ≡ true → i .trial ≡ false →
+    eqb (i .operand .mode) modeDirect ≡ true → eqb (i .form) direct ≡ true → reaches page (v .unsigned .number) ≡ false → i .trial ≡ false →
     P (refuse directNotAllowed)) where
-  pub address-choice : P (addressOf i v dirty)
+  pub address-choice : P (addressOf i v page)
   unfolding addressOf directlyOf staysDirect leavesDirect anewOf anewAs
   address-choice =
       by-test P (eqb (i .operand .mode) modeDirect)
-      (λ m. by-pick P (becomesDirect (i .operand) v dirty) (some direct (i .trial) refl)
+      (λ m. by-pick P (becomesDirect (i .operand) v page) (some direct (i .trial) refl)
       (by-test P (eqb (i .form) direct)
-      (λ f. by-test P (dirty || ltb 255 (v .unsigned .number))
-      (λ b. by-test P (i .trial) (λ _. some extended false refl) (seven m f b))
-      (λ _. by-pick P (forcedWide i v) six (some direct (i .trial) refl)))
+      (λ f. by-test P (reaches page (v .unsigned .number))
+      (λ _. by-pick P (forcedWide i v page) six (some direct (i .trial) refl))
+      (λ b. by-test P (i .trial) (λ _. some extended false refl) (seven m f b)))
       (λ _. some extended (i .trial) refl)))
-      (λ _. some _ _ (by-pick (λ (f : ℕ). isMemory f ≡ true) (becomesDirect (i .operand) v dirty) refl refl))
+      (λ _. some _ _ (by-pick (λ (f : ℕ). isMemory f ≡ true) (becomesDirect (i .operand) v page) refl refl))

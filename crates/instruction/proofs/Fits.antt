@@ -15,6 +15,8 @@ use Rattle.ground.proofs.Tests.{both-first, both-second, neither-left, neither-
 use Rattle.values.specs.declared.Value.{Value}
 use Rattle.values.specs.Widths.{bitsOf, validOf, signExtendedOf}
 use Rattle.values.proofs.Laws.{valid-fits}
+use Rattle.values.specs.declared.pages.Page.{Page}
+use Rattle.values.specs.Pages.{reaches}
 use Rattle.rows.specs.Forms.{inherent, immediate, direct, indexed, extended, relative, register}
 use Rattle.rows.specs.Lookup.{mergedOf, hasFormOf, knownOf}
 use Rattle.rows.specs.Sizes.{numberSizeOf, longOf}
@@ -35,7 +37,7 @@ use Rattle.instruction.specs.declared.Argument.{Argument}
 use Rattle.instruction.specs.declared.Argument.the-variants.{Nothing, Number, Target, Indexed, Relative, Registers}
 use Rattle.instruction.specs.Names.{modeRegister, modeOffset, modePcRelative, modeIncDec, modeExtended, modeDirect, modeImmediate}
 use Rattle.instruction.specs.Records.{stepped, recognised, agreeing, lawful, sound}
-use Rattle.instruction.specs.Forms.{onPage, becomesDirect, strays, lacks, needsValue}
+use Rattle.instruction.specs.Forms.{becomesDirect, strays, lacks, needsValue}
 use Rattle.instruction.specs.Choosing.{settled, inherentOf, immediateOf, forcedWide, leavesDirect, staysDirect, directlyOf, anewAs, anewOf, addressOf, longBranch, branchOf, registerAt, offsetValue, accumulatorIndex, offsetIndex, targetIndex, stepIndex, addressIndex, indexOf, listedOf, registersOf, chooseOf}
 use Rattle.instruction.specs.Building.{earlyOf, acceptedOf, finishedOf, buildOf}
 use Rattle.instruction.proofs.Tests.{not-second, implied, or-left, or-right}
@@ -43,11 +45,12 @@ use Rattle.instruction.proofs.Choice.{last-form}
 use Rattle.instruction.proofs.Rows.{direct-extended, extended-size, branch-size, operation-small, long-merged}
 
 -- ---- what fits
--- a number of an immediate or an address: it has 16 bits, and 8 where one byte is all that follows
-pub record NumberFits (o form n : ℕ) : Type 0 where
+-- a number of an immediate or an address: it has 16 bits; an immediate of one byte has 8, and a direct address lies on the page
+pub record NumberFits (page : Page) (o form n : ℕ) : Type 0 where
   pub formed : (form ≡ immediate) ⊎ ((form ≡ direct) ⊎ (form ≡ extended))
   pub word : n < 65536
-  pub byte : numberSizeOf o form ≡ 1 → n < 256
+  pub byte : form ≡ immediate → numberSizeOf o form ≡ 1 → n < 256
+  pub paged : form ≡ direct → reaches page n ≡ true
 
 -- a branch's target: a short branch, of two bytes, has it near
 pub record TargetFits (o form address t : ℕ) : Type 0 where
@@ -69,13 +72,13 @@ pub record ListFits (operand : Operand) (form b : ℕ) : Type 0 where
   pub accepted : listedOf operand .refusal ≡ 0
   pub byte : b ≡ listedOf operand .byte
 
-abbrev pub ArgumentFits : Operand → ℕ → ℕ → ℕ → Argument → Type 0
-ArgumentFits operand address o form Nothing = form ≡ inherent
-ArgumentFits operand address o form (Number n) = NumberFits o form n
-ArgumentFits operand address o form (Target t) = TargetFits o form address t
-ArgumentFits operand address o form (Indexed index) = IndexFits form index
-ArgumentFits operand address o form (Relative t ind) = RelativeFits form t
-ArgumentFits operand address o form (Registers b) = ListFits operand form b
+abbrev pub ArgumentFits : Operand → Page → ℕ → ℕ → ℕ → Argument → Type 0
+ArgumentFits operand page address o form Nothing = form ≡ inherent
+ArgumentFits operand page address o form (Number n) = NumberFits page o form n
+ArgumentFits operand page address o form (Target t) = TargetFits o form address t
+ArgumentFits operand page address o form (Indexed index) = IndexFits form index
+ArgumentFits operand page address o form (Relative t ind) = RelativeFits form t
+ArgumentFits operand page address o form (Registers b) = ListFits operand form b
 
 -- the operation whose bytes are emitted: the operand's own, or the long branch of a short one
 pub record Widens (o : ℕ) (c : Chosen) : Type 0 where
@@ -83,9 +86,9 @@ pub record Widens (o : ℕ) (c : Chosen) : Type 0 where
   pub long : c .operation ≡ longOf o
   pub formed : c .form ≡ relative
 
-pub record Fits (operand : Operand) (address : ℕ) (c : Chosen) : Type 0 where
+pub record Fits (operand : Operand) (page : Page) (address : ℕ) (c : Chosen) : Type 0 where
   pub row : hasFormOf (c .operation) (c .form) ≡ true
-  pub argument : ArgumentFits operand address (c .operation) (c .form) (c .argument)
+  pub argument : ArgumentFits operand page address (c .operation) (c .form) (c .argument)
   pub operation : (c .operation ≡ operand .operation) ⊎ Widens (operand .operation) c
   -- as the instruction that is handed back says it
   pub named : mergedOf (c .operation) ≡ pick (eqb (c .form) relative && c .widened) (longOf (operand .operation)) (mergedOf (operand .operation))
@@ -145,13 +148,12 @@ unfolding offsetValue validOf bitsOf pick
 offset-valid v e =
     by-test (λ (x : Value). validOf x ≡ true) (v .given) (λ g. lawful-given v e g .1) (λ _. refl)
 
--- what becomes Direct is below 256
-pub direct-below : (o : Operand) (v : Values) (dirty : Bool) → becomesDirect o v dirty ≡ true → v .unsigned .number < 256
-unfolding becomesDirect onPage
-direct-below o v dirty e =
-    let n = v .unsigned .number in
-    let page = not dirty && ltb n 256 in
-    ltb-true n 256 (both-second (not dirty) (ltb n 256) (both-second (not (o .forced)) page (both-second (v .given) (not (o .forced) && page) e)))
+-- what becomes Direct lies on the page
+direct-paged : (o : Operand) (v : Values) (page : Page) → becomesDirect o v page ≡ true → reaches page (v .unsigned .number) ≡ true
+unfolding becomesDirect
+direct-paged o v page e =
+    let on = reaches page (v .unsigned .number) in
+    both-second (not (o .forced)) on (both-second (v .given) (not (o .forced) && on) e)
 
 -- ---- postbytes that are not refused
 abbrev Accepted : Encoded → Type 0
@@ -201,9 +203,9 @@ abbrev isNumber : ℕ → Bool
 isNumber form = eqb form immediate || (eqb form direct || (eqb form extended || eqb form relative))
 
 -- ---- each form's choice
-module _ (i : Instruction) (v : Values) (dirty : Bool) (address : ℕ) (early : Early i v) where
+module _ (i : Instruction) (v : Values) (page : Page) (address : ℕ) (early : Early i v) where
   abbrev Choice : Chosen → Type 0
-  Choice c = c .refusal ≡ 0 → Fits (i .operand) address c
+  Choice c = c .refusal ≡ 0 → Fits (i .operand) page address c
 
   -- the form as a number
   has-as : (form : ℕ) → eqb (i .form) form ≡ true → hasFormOf (i .operand .operation) form ≡ true
@@ -241,7 +243,8 @@ module _ (i : Instruction) (v : Values) (dirty : Bool) (address : ℕ) (early : 
         argument = record {
           formed = inl refl;
           word = number-given immediate q refl;
-          byte = λ s. let b = ltb-false 255 n (not-second (eqb (numberSizeOf o immediate) 1) (ltb 255 n) t (eq-eqb (numberSizeOf o immediate) 1 s)) in omega arith;
+          byte = λ _ s. let b = ltb-false 255 n (not-second (eqb (numberSizeOf o immediate) 1) (ltb 255 n) t (eq-eqb (numberSizeOf o immediate) 1 s)) in omega arith;
+          paged = λ f. absurd (omega arith);
         };
         operation = inl refl;
         named = refl;
@@ -264,11 +267,11 @@ module _ (i : Instruction) (v : Values) (dirty : Bool) (address : ℕ) (early : 
         from true p = number-given direct p refl
         from false p = number-given extended (rw p at q) refl
 
-    direct-fits : v .unsigned .number < 256 → Choice (settled i direct (Number (v .unsigned .number)))
+    direct-fits : reaches page (v .unsigned .number) ≡ true → Choice (settled i direct (Number (v .unsigned .number)))
     unfolding pick
     direct-fits h _ = record {
       row = address-has .0;
-      argument = record { formed = inr (inl refl); word = address-word; byte = λ _. h };
+      argument = record { formed = inr (inl refl); word = address-word; byte = λ f. absurd (omega arith); paged = λ _. h };
       operation = inl refl;
       named = refl;
     }
@@ -280,34 +283,34 @@ module _ (i : Instruction) (v : Values) (dirty : Bool) (address : ℕ) (early : 
       argument = record {
         formed = inr (inr refl);
         word = address-word;
-        byte = λ s. absurd (omega (arith, s, extended-size (i .operand .operation) (address-has .1)));
+        byte = λ f. absurd (omega arith);
+        paged = λ f. absurd (omega arith);
       };
       operation = inl refl;
       named = refl;
     }
 
-    directly-fits : Choice (directlyOf i v dirty)
+    directly-fits : Choice (directlyOf i v page)
     unfolding directlyOf staysDirect leavesDirect
     directly-fits =
         let n = v .unsigned .number in
-        by-test Choice (becomesDirect (i .operand) v dirty) (λ t. direct-fits (direct-below (i .operand) v dirty t))
+        by-test Choice (becomesDirect (i .operand) v page) (λ t. direct-fits (direct-paged (i .operand) v page t))
         (λ _. by-pick Choice (eqb (i .form) direct)
-        (by-test Choice (dirty || ltb 255 n)
-        (λ _. by-pick Choice (i .trial) (extended-fits false) (λ z. absurd (omega arith)))
-        (λ t. by-pick Choice (forcedWide i v) (λ z. absurd (omega arith))
-        (direct-fits (let b = ltb-false 255 n (neither-right dirty (ltb 255 n) t) in omega arith))))
+        (by-test Choice (reaches page n)
+        (λ t. by-pick Choice (forcedWide i v page) (λ z. absurd (omega arith)) (direct-fits t))
+        (λ _. by-pick Choice (i .trial) (extended-fits false) (λ z. absurd (omega arith))))
         (extended-fits (i .trial)))
 
     -- what fits does not hang on the mark
-    anew-fits : Choice (anewOf i v dirty)
+    anew-fits : Choice (anewOf i v page)
     unfolding anewOf anewAs pick
-    anew-fits = go (becomesDirect (i .operand) v dirty) refl
+    anew-fits = go (becomesDirect (i .operand) v page) refl
       where
-        go : (t : Bool) → becomesDirect (i .operand) v dirty ≡ t → Choice (anewAs i v (pick t direct extended))
-        go true t = λ z. let f = direct-fits (direct-below (i .operand) v dirty t) z in record { row = f .row; argument = f .argument; operation = inl refl; named = refl }
+        go : (t : Bool) → becomesDirect (i .operand) v page ≡ t → Choice (anewAs i v (pick t direct extended))
+        go true t = λ z. let f = direct-fits (direct-paged (i .operand) v page t) z in record { row = f .row; argument = f .argument; operation = inl refl; named = refl }
         go false t = λ z. let f = extended-fits (i .trial) z in record { row = f .row; argument = f .argument; operation = inl refl; named = refl }
 
-    address-fits : Choice (addressOf i v dirty)
+    address-fits : Choice (addressOf i v page)
     unfolding addressOf
     address-fits = by-pick Choice (eqb (i .operand .mode) modeDirect) directly-fits anew-fits
 
@@ -444,41 +447,41 @@ module _ (i : Instruction) (v : Values) (dirty : Bool) (address : ℕ) (early : 
 
 -- what is chosen, after 1, 2 and 3, fits
 pub choose-fits :
-    (i : Instruction) (v : Values) (dirty : Bool) (address : ℕ) →
+    (i : Instruction) (v : Values) (page : Page) (address : ℕ) →
     Early i v →
-    chooseOf i v dirty address .refusal ≡ 0 →
-    Fits (i .operand) address (chooseOf i v dirty address)
+    chooseOf i v page address .refusal ≡ 0 →
+    Fits (i .operand) page address (chooseOf i v page address)
 unfolding chooseOf
-choose-fits i v dirty address e =
+choose-fits i v page address e =
     let f = i .form in
-    let P : Chosen → Type 0 = λ c. c .refusal ≡ 0 → Fits (i .operand) address c in
-    by-test P (eqb f inherent) (inherent-fits i v dirty address e)
-    (λ a. by-test P (eqb f immediate) (immediate-fits i v dirty address e)
-    (λ b. by-test P (eqb f direct || eqb f extended) (address-fits i v dirty address e)
-    (λ c. by-test P (eqb f indexed) (index-fits i v dirty address e)
-    (λ d. by-test P (eqb f relative) (branch-fits i v dirty address e)
-    (λ g. registers-fits i v dirty address e
+    let P : Chosen → Type 0 = λ c. c .refusal ≡ 0 → Fits (i .operand) page address c in
+    by-test P (eqb f inherent) (inherent-fits i v page address e)
+    (λ a. by-test P (eqb f immediate) (immediate-fits i v page address e)
+    (λ b. by-test P (eqb f direct || eqb f extended) (address-fits i v page address e)
+    (λ c. by-test P (eqb f indexed) (index-fits i v page address e)
+    (λ d. by-test P (eqb f relative) (branch-fits i v page address e)
+    (λ g. registers-fits i v page address e
     (last-form f (e .small) a b (neither-left (eqb f direct) (eqb f extended) c) (neither-right (eqb f direct) (eqb f extended) c) d g))))))
 
 -- an accepted build is what was chosen, laid down
-pub record Builds (i : Instruction) (v : Values) (dirty : Bool) (address : ℕ) (b : Built) : Type 0 where
+pub record Builds (i : Instruction) (v : Values) (page : Page) (address : ℕ) (b : Built) : Type 0 where
   pub early : Early i v
-  pub chosen : chooseOf i v dirty address .refusal ≡ 0
-  pub fits : Fits (i .operand) address (chooseOf i v dirty address)
-  pub built : b ≡ acceptedOf i (chooseOf i v dirty address) address
+  pub chosen : chooseOf i v page address .refusal ≡ 0
+  pub fits : Fits (i .operand) page address (chooseOf i v page address)
+  pub built : b ≡ acceptedOf i (chooseOf i v page address) address
 
 pub build-chosen :
-    (i : Instruction) (v : Values) (dirty : Bool) (address : ℕ) →
-    buildOf i v dirty address .refusal ≡ 0 →
-    Builds i v dirty address (buildOf i v dirty address)
+    (i : Instruction) (v : Values) (page : Page) (address : ℕ) →
+    buildOf i v page address .refusal ≡ 0 →
+    Builds i v page address (buildOf i v page address)
 unfolding buildOf finishedOf
-build-chosen i v dirty address =
-    let P : Built → Type 0 = λ b. b .refusal ≡ 0 → Builds i v dirty address b in
-    let c = chooseOf i v dirty address in
+build-chosen i v page address =
+    let P : Built → Type 0 = λ b. b .refusal ≡ 0 → Builds i v page address b in
+    let c = chooseOf i v page address in
     by-test P (eqb (earlyOf i v) 0)
     (λ a. by-test P (eqb (c .refusal) 0)
     (λ d _. let e = early-leaves i v (eqb-true (earlyOf i v) 0 a) in
     let n = eqb-true (c .refusal) 0 d in
-    record { early = e; chosen = n; fits = choose-fits i v dirty address e n; built = refl })
+    record { early = e; chosen = n; fits = choose-fits i v page address e n; built = refl })
     (λ d z. absurd (eqb-false (c .refusal) 0 d z)))
     (λ a z. absurd (eqb-false (earlyOf i v) 0 a z))

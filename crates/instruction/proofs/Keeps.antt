@@ -10,6 +10,7 @@ use lib.ListN.{length, take, drop}
 use borrow.Author.Tests.{eqb-true}
 use Rattle.ground.specs.Choice.{pick}
 use Rattle.ground.proofs.Choices.{by-test, by-pick}
+use Rattle.values.specs.declared.pages.Page.{Page}
 use Rattle.instruction.specs.declared.Instruction.{Instruction}
 use Rattle.instruction.specs.declared.Values.{Values}
 use Rattle.instruction.specs.declared.Record.{Record}
@@ -28,7 +29,7 @@ unfolding makeOf madeAs
 make-keeps r =
     let P : Made → Type 0 = λ m. (m .refusal ≡ 0 → ⊥) → m ≡ unmade (m .refusal) in
     by-pick P (recognised (r .operand) && lawful (r .values))
-    (by-pick P (lacks (r .operand) (formOf (r .operand) (r .values) (r .dirty))) (λ _. refl) (λ h. absurd (h refl)))
+    (by-pick P (lacks (r .operand) (formOf (r .operand) (r .values) (r .page))) (λ _. refl) (λ h. absurd (h refl)))
     (λ _. refl)
 
 -- room or none, where a refused build is known to keep its instruction
@@ -47,33 +48,33 @@ either-keeps i b d keeps true h = (refl, refl)
 either-keeps i b d keeps false h =
     (ap moved (keeps h), ap (λ (k : Built). take (k .length) (k .bytes) ++ drop (k .length) d) (keeps h))
 
-module _ (i : Instruction) (v : Values) (dirty : Bool) (address : ℕ) where
+module _ (i : Instruction) (v : Values) (page : Page) (address : ℕ) where
   -- a refused build hands the instruction back unchanged
   pub refusal-keeps :
-      (buildOf i v dirty address .refusal ≡ 0 → ⊥) →
-      buildOf i v dirty address ≡ refusedWith i (buildOf i v dirty address .refusal)
+      (buildOf i v page address .refusal ≡ 0 → ⊥) →
+      buildOf i v page address ≡ refusedWith i (buildOf i v page address .refusal)
   unfolding buildOf finishedOf acceptedOf
   refusal-keeps =
       let P : Built → Type 0 = λ b. (b .refusal ≡ 0 → ⊥) → b ≡ refusedWith i (b .refusal) in
       by-pick P (eqb (earlyOf i v) 0)
-      (by-pick P (eqb (chooseOf i v dirty address .refusal) 0) (λ h. absurd (h refl)) (λ _. refl))
+      (by-pick P (eqb (chooseOf i v page address .refusal) 0) (λ h. absurd (h refl)) (λ _. refl))
       (λ _. refl)
 
   -- and so does a refused build into a buffer, which it leaves as it was; 9 too
   pub place-keeps :
       (d : List ℕ) →
-      (placedOf i (buildOf i v dirty address) (length d) .refusal ≡ 0 → ⊥) →
-      (placedOf i (buildOf i v dirty address) (length d) ≡ unplaced i (placedOf i (buildOf i v dirty address) (length d) .refusal))
-      × (bufferOf (buildOf i v dirty address) d ≡ d)
+      (placedOf i (buildOf i v page address) (length d) .refusal ≡ 0 → ⊥) →
+      (placedOf i (buildOf i v page address) (length d) ≡ unplaced i (placedOf i (buildOf i v page address) (length d) .refusal))
+      × (bufferOf (buildOf i v page address) d ≡ d)
   unfolding placedOf bufferOf
-  place-keeps d = either-keeps i (buildOf i v dirty address) d refusal-keeps (ltb (length d) (buildOf i v dirty address .length))
+  place-keeps d = either-keeps i (buildOf i v page address) d refusal-keeps (ltb (length d) (buildOf i v page address .length))
 
 -- a fresh build that is refused has nothing to hand back
 pub fresh-keeps : (r : Record) (address : ℕ) → (freshOf r address .refusal ≡ 0 → ⊥) → freshOf r address ≡ refusedWith noInstruction (freshOf r address .refusal)
 unfolding freshOf freshFrom handed
 fresh-keeps r address =
     let P : Built → Type 0 = λ b. (b .refusal ≡ 0 → ⊥) → b ≡ refusedWith noInstruction (b .refusal) in
-    let b = buildOf (makeOf r .instruction) (r .values) (r .dirty) address in
+    let b = buildOf (makeOf r .instruction) (r .values) (r .page) address in
     by-pick P (eqb (makeOf r .refusal) 0)
     (by-test P (eqb (b .refusal) 0) (λ e h. absurd (h (eqb-true (b .refusal) 0 e))) (λ _ _. refl))
     (λ _. refl)
@@ -81,5 +82,5 @@ fresh-keeps r address =
 -- so it is, among other builds, as if it had not been asked for
 pub spoils-nothing : SpoilsNothing
 unfolding keptAfter
-spoils-nothing i [] p qs h = ap (λ (b : Built). keptAfter (b .instruction) qs) (refusal-keeps i (p .values) (p .dirty) (p .address) h)
+spoils-nothing i [] p qs h = ap (λ (b : Built). keptAfter (b .instruction) qs) (refusal-keeps i (p .values) (p .page) (p .address) h)
 spoils-nothing i (q ∷ ps) p qs h = spoils-nothing (builtWith i q .instruction) ps p qs h

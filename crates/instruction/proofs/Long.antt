@@ -11,6 +11,7 @@ use Rattle.ground.specs.Choice.{pick}
 use Rattle.ground.specs.Refusals.{unknown, valueMissing}
 use Rattle.ground.proofs.Choices.{by-test}
 use Rattle.ground.proofs.Tests.{both-first, both-second}
+use Rattle.values.specs.declared.pages.Page.{Page}
 use Rattle.rows.specs.declared.Coded.{Coded}
 use Rattle.rows.specs.declared.Coded.the-variants.{Code, Unknown, Missing}
 use Rattle.rows.specs.Forms.{extended, relative}
@@ -50,12 +51,12 @@ stays-long i p w =
     let P : Built → Type 0 = λ b. b .instruction .widened ≡ true in
     let Q : Chosen → Type 0 = λ c. c .refusal ≡ 0 → c .widened ≡ true in
     let v = p .values in
-    let c = chooseOf i v (p .dirty) (p .address) in
+    let c = chooseOf i v (p .page) (p .address) in
     by-test P (eqb (earlyOf i v) 0)
     (λ e. let left = early-leaves i v (eqb-true (earlyOf i v) 0 e) in
     by-test P (eqb (c .refusal) 0)
-    (λ z. choice i v (p .dirty) (p .address) Q (λ n t y. absurd (omega arith)) (λ _ _ _ _. w) (λ _ _ _ _. refl)
-    (λ _. address-choice i v (p .dirty) Q (λ _ _ _ _. w) (λ y. absurd (omega arith)) (λ _ _ _ _ y. absurd (omega arith)))
+    (λ z. choice i v (p .page) (p .address) Q (λ n t y. absurd (omega arith)) (λ _ _ _ _. w) (λ _ _ _ _. refl)
+    (λ _. address-choice i v (p .page) Q (λ _ _ _ _. w) (λ y. absurd (omega arith)) (λ _ _ _ _ y. absurd (omega arith)))
     (not-strange (i .operand) (left .known)) (left .small) (eqb-true (c .refusal) 0 z))
     (λ _. w))
     (λ _. w)
@@ -86,7 +87,7 @@ module _ (o : Operand) (b : MayWiden o) where
 pub only-short-widens : OnlyShortWidens
 only-short-widens r ps z w =
     let b = after-long r ps z w .0 in
-    (branch-form (r .operand) (b .branch) (r .values) (r .dirty), (is-short (r .operand) b, b .allowed))
+    (branch-form (r .operand) (b .branch) (r .values) (r .page), (is-short (r .operand) b, b .allowed))
 
 pub never-widened : NeverWidened
 never-widened r ps z h = go (keptAfter (makeOf r .instruction) ps .widened) refl
@@ -139,7 +140,7 @@ module _ (o : Operand) (known : recognised o ≡ true) (b : MayWiden o) where
       rw (has-form-known (longOf (o .operation)) relative long-has)
       (both-second (knownOf (o .operation)) (ltb (o .mode) 8 && (not (strangeList (o .registers) (o .count)) && stepped o)) known)
 
-  long-formed : (v : Values) (dirty : Bool) → formOf (lengthened o) v dirty ≡ relative
+  long-formed : (v : Values) (page : Page) → formOf (lengthened o) v page ≡ relative
   long-formed =
       branch-form (lengthened o)
       (record { mode = b .branch .mode; straight = b .branch .straight; rows = rw (branch-only (longOf (o .operation)) long-has, long-has) })
@@ -148,15 +149,15 @@ module _ (o : Operand) (known : recognised o ≡ true) (b : MayWiden o) where
   abbrev fresh : Instruction
   fresh = plain (lengthened o) relative
 
-  fresh-chosen : (v : Values) (dirty : Bool) (address : ℕ) → chooseOf fresh v dirty address ≡ settled fresh relative (Target (v .unsigned .number))
+  fresh-chosen : (v : Values) (page : Page) (address : ℕ) → chooseOf fresh v page address ≡ settled fresh relative (Target (v .unsigned .number))
   unfolding chooseOf branchOf pick
-  fresh-chosen v dirty address = rw long-size
+  fresh-chosen v page address = rw long-size
 
   long-made : (p : Present) → freshWith (lengthened o) p ≡ handed (builtWith fresh p)
   unfolding instructionOf
   long-made p =
-      fresh-built (record { operand = lengthened o; dirty = p .dirty; values = p .values }) (p .address)
-      ∙ ap (λ (f : ℕ). handed (builtWith (instructionOf (lengthened o) f) p)) (long-formed (p .values) (p .dirty))
+      fresh-built (record { operand = lengthened o; page = p .page; values = p .values }) (p .address)
+      ∙ ap (λ (f : ℕ). handed (builtWith (instructionOf (lengthened o) f) p)) (long-formed (p .values) (p .page))
       ∙ rw (eqb-true (o .mode) modeExtended (b .branch .mode))
 
   -- after 1, 2 and 3, which told n
@@ -176,9 +177,9 @@ module _ (o : Operand) (known : recognised o ≡ true) (b : MayWiden o) where
       let n = pick (lawful v) (pick (needsValue (o .mode) relative && not (v .given)) valueMissing 0) unknown in
       rw (
         long-made p,
-        handed-out fresh v (p .dirty) (p .address),
-        chosen-long o b v (p .dirty) (p .address),
-        fresh-chosen v (p .dirty) (p .address),
+        handed-out fresh v (p .page) (p .address),
+        chosen-long o b v (p .page) (p .address),
+        fresh-chosen v (p .page) (p .address),
         early-branch o true v known (has-relative o b),
         early-branch (lengthened o) false v long-known long-has,
       )

@@ -14,6 +14,7 @@ use Rattle.ground.specs.Words.{plus, minus, high, low}
 use Rattle.ground.proofs.Choices.{by-pick}
 use Rattle.ground.proofs.Stores.{put-front}
 use Rattle.values.specs.Widths.{validOf, signExtendedOf}
+use Rattle.values.specs.declared.pages.Page.{Page}
 use Rattle.rows.specs.declared.Coded.{Coded}
 use Rattle.rows.specs.declared.Coded.the-variants.{Code, Unknown, Missing}
 use Rattle.rows.specs.Lookup.{codeOf}
@@ -127,17 +128,17 @@ laid-five c address = from (codeOf (c .operation) (c .form))
     from Missing = record { all = refl; most = omega arith; zeros = refl }
 
 -- every answer of a build, a refusal's too
-pub build-five : (i : Instruction) (v : Values) (dirty : Bool) (address : ℕ) → Five (buildOf i v dirty address .bytes) (buildOf i v dirty address .length)
+pub build-five : (i : Instruction) (v : Values) (page : Page) (address : ℕ) → Five (buildOf i v page address .bytes) (buildOf i v page address .length)
 unfolding buildOf finishedOf acceptedOf
-build-five i v dirty address =
+build-five i v page address =
     let P : Built → Type 0 = λ b. Five (b .bytes) (b .length) in
     let nothing : Five (0 ∷ 0 ∷ 0 ∷ 0 ∷ 0 ∷ []) 0 = record { all = refl; most = omega arith; zeros = refl } in
     by-pick P (eqb (earlyOf i v) 0)
-    (by-pick P (eqb (chooseOf i v dirty address .refusal) 0) (laid-five (chooseOf i v dirty address) address) nothing) nothing
+    (by-pick P (eqb (chooseOf i v page address .refusal) 0) (laid-five (chooseOf i v page address) address) nothing) nothing
 
-pub built-within : {b : Built} (i : Instruction) (v : Values) (dirty : Bool) (address : ℕ) → b ≡ buildOf i v dirty address → b .length ≤ length (b .bytes)
-built-within i v dirty address e =
-    let f = build-five i v dirty address in
+pub built-within : {b : Built} (i : Instruction) (v : Values) (page : Page) (address : ℕ) → b ≡ buildOf i v page address → b .length ≤ length (b .bytes)
+built-within i v page address e =
+    let f = build-five i v page address in
     rw e (omega (arith, f .all, f .most))
 
 -- ---- stored at the front

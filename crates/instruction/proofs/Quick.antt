@@ -9,6 +9,7 @@ use borrow.Author.Tests.{eqb-true, eqb-false, ne-eqb, ltb-true, not-true}
 use Rattle.ground.specs.Choice.{pick}
 use Rattle.ground.proofs.Choices.{by-pick}
 use Rattle.ground.proofs.Tests.{both-first, both-second}
+use Rattle.values.specs.declared.pages.Page.{Page}
 use Rattle.rows.specs.declared.Coded.{Coded}
 use Rattle.rows.specs.Forms.{direct, extended, relative}
 use Rattle.rows.specs.Lookup.{mergedOf, isCode, hasFormOf, codeOf}
@@ -55,19 +56,19 @@ long-row o small h = go (eqb (numberSizeOf o relative) 1) refl
         ∙ h
 
 chosen-row :
-    (i : Instruction) (v : Values) (dirty : Bool) (address : ℕ) → i .operand .operation < 256 →
+    (i : Instruction) (v : Values) (page : Page) (address : ℕ) → i .operand .operation < 256 →
     strangeList (i .operand .registers) (i .operand .count) ≡ false → i .form < 7 →
-    chooseOf i v dirty address .refusal ≡ 0 →
-    hasFormOf (chooseOf i v dirty address .operation) (chooseOf i v dirty address .form) ≡ true →
+    chooseOf i v page address .refusal ≡ 0 →
+    hasFormOf (chooseOf i v page address .operation) (chooseOf i v page address .form) ≡ true →
     hasFormOf (i .operand .operation) (i .form) ≡ true
 unfolding longBranch
-chosen-row i v dirty address small =
+chosen-row i v page address small =
     let o = i .operand .operation in
     let P : Chosen → Type 0 = λ c. c .refusal ≡ 0 → hasFormOf (c .operation) (c .form) ≡ true → hasFormOf o (i .form) ≡ true in
-    choice i v dirty address P (λ n t z. absurd (omega arith))
+    choice i v page address P (λ n t z. absurd (omega arith))
     (λ form _ q _ h. ap (hasFormOf o) (eqb-true (i .form) form q) ∙ h)
     (λ q _ _ _ h. ap (hasFormOf o) (eqb-true (i .form) relative q) ∙ long-row o small h)
-    (λ m. address-choice i v dirty P (λ form _ n _ h. memory-row o (i .form) m ∙ sym (memory-row o form n) ∙ h) (λ z. absurd (omega arith)) (λ _ _ _ _ z. absurd (omega arith)))
+    (λ m. address-choice i v page P (λ form _ n _ h. memory-row o (i .form) m ∙ sym (memory-row o form n) ∙ h) (λ z. absurd (omega arith)) (λ _ _ _ _ z. absurd (omega arith)))
 
 -- ---- what fits
 lawful-valued : (i : Instruction) (v : Values) → valued i v ≡ true → lawful v ≡ true
@@ -113,15 +114,15 @@ fit-leaves i v h =
 
 -- the code of what is chosen tells of the instruction's row
 pub code-tells :
-    (i : Instruction) (v : Values) (dirty : Bool) (address : ℕ) (c : Chosen) (coded : Coded) →
+    (i : Instruction) (v : Values) (page : Page) (address : ℕ) (c : Chosen) (coded : Coded) →
     i .operand .operation < 256 →
-    c ≡ chooseOf i v dirty address →
+    c ≡ chooseOf i v page address →
     coded ≡ codeOf (c .operation) (c .form) →
     CodeTells i v c coded
-code-tells i v dirty address c coded small ec ed f k z =
+code-tells i v page address c coded small ec ed f k z =
     let fits = fit-leaves i v f in
     let h : hasFormOf (c .operation) (c .form) ≡ true = has-form-code (c .operation) (c .form) ∙ ap isCode (sym ed) ∙ k in
-    chosen-row i v dirty address small (regular-named (i .operand) (fits .fields)) (ltb-true (i .form) 7 (fits .small))
+    chosen-row i v page address small (regular-named (i .operand) (fits .fields)) (ltb-true (i .form) 7 (fits .small))
     (ap (λ (x : Chosen). x .refusal) (sym ec) ∙ z)
     (ap (λ (x : Chosen). hasFormOf (x .operation) (x .form)) (sym ec) ∙ h)
 
@@ -148,13 +149,13 @@ nothing-wrong i v c coded {fits} {found} tells ef ek h =
     rw (fit-early i v f row, z)
 
 -- ---- the first refusal is a build's
-module _ (i : Instruction) (v : Values) (dirty : Bool) (address : ℕ) where
-  pub none-first : firstRefusal i v (chooseOf i v dirty address) ≡ 0 → buildOf i v dirty address ≡ acceptedOf i (chooseOf i v dirty address) address
+module _ (i : Instruction) (v : Values) (page : Page) (address : ℕ) where
+  pub none-first : firstRefusal i v (chooseOf i v page address) ≡ 0 → buildOf i v page address ≡ acceptedOf i (chooseOf i v page address) address
   unfolding firstRefusal buildOf finishedOf pick
   none-first = go (eqb (earlyOf i v) 0) refl
     where
       c : Chosen
-      c = chooseOf i v dirty address
+      c = chooseOf i v page address
 
       go :
           (t : Bool) → eqb (earlyOf i v) 0 ≡ t →
@@ -164,13 +165,13 @@ module _ (i : Instruction) (v : Values) (dirty : Bool) (address : ℕ) where
       go false q z = absurd (eqb-false (earlyOf i v) 0 q z)
 
   pub some-first :
-      (firstRefusal i v (chooseOf i v dirty address) ≡ 0 → ⊥) →
-      buildOf i v dirty address ≡ refusedWith i (firstRefusal i v (chooseOf i v dirty address))
+      (firstRefusal i v (chooseOf i v page address) ≡ 0 → ⊥) →
+      buildOf i v page address ≡ refusedWith i (firstRefusal i v (chooseOf i v page address))
   unfolding firstRefusal buildOf finishedOf pick
   some-first = go (eqb (earlyOf i v) 0)
     where
       c : Chosen
-      c = chooseOf i v dirty address
+      c = chooseOf i v page address
 
       go :
           (t : Bool) →
@@ -192,9 +193,9 @@ accepted-outcome i k address e f g = cc
 
 -- a build changes nothing of the operand
 pub with-outcome :
-    (i : Instruction) (v : Values) (dirty : Bool) (address : ℕ) →
-    withOutcome i (outcomeOf (buildOf i v dirty address)) ≡ buildOf i v dirty address
+    (i : Instruction) (v : Values) (page : Page) (address : ℕ) →
+    withOutcome i (outcomeOf (buildOf i v page address)) ≡ buildOf i v page address
 unfolding buildOf finishedOf acceptedOf
-with-outcome i v dirty address =
+with-outcome i v page address =
     let P : Built → Type 0 = λ b. withOutcome i (outcomeOf b) ≡ b in
-    by-pick P (eqb (earlyOf i v) 0) (by-pick P (eqb (chooseOf i v dirty address .refusal) 0) refl refl) refl
+    by-pick P (eqb (earlyOf i v) 0) (by-pick P (eqb (chooseOf i v page address .refusal) 0) refl refl) refl

@@ -11,6 +11,7 @@ use Rattle.ground.specs.Choice.{pick}
 use Rattle.ground.specs.Refusals.{unknown, noSuchMode, valueMissing}
 use Rattle.ground.proofs.Choices.{by-test, by-pick}
 use Rattle.ground.proofs.Tests.{both-first, both-second, neither-left}
+use Rattle.values.specs.declared.pages.Page.{Page}
 use Rattle.rows.specs.Lookup.{hasFormOf}
 use Rattle.rows.proofs.Codes.{form-small}
 use Rattle.instruction.specs.declared.Operand.{Operand}
@@ -33,7 +34,7 @@ abbrev pub made : Instruction → Made
 made i = record { refusal = 0; instruction = i }
 
 record Makes (r : Record) (m : Made) : Type 0 where
-  whole : m ≡ made (instructionOf (r .operand) (formOf (r .operand) (r .values) (r .dirty)))
+  whole : m ≡ made (instructionOf (r .operand) (formOf (r .operand) (r .values) (r .page)))
   right : sound (m .instruction) (r .values) ≡ true
   has : lacks (m .instruction .operand) (m .instruction .form) ≡ false
 
@@ -42,7 +43,7 @@ unfolding makeOf madeAs instructionOf sound
 make-makes r =
     let o = r .operand in
     let v = r .values in
-    let form = formOf o v (r .dirty) in
+    let form = formOf o v (r .page) in
     let P : Made → Type 0 = λ m. m .refusal ≡ 0 → Makes r m in
     by-test P (recognised o && lawful v)
     (λ k. by-test P (lacks o form) (λ _ z. absurd (omega arith))
@@ -53,7 +54,7 @@ make-makes r =
     }))
     (λ _ z. absurd (omega arith))
 
-pub made-whole : (r : Record) → makeOf r .refusal ≡ 0 → makeOf r ≡ made (instructionOf (r .operand) (formOf (r .operand) (r .values) (r .dirty)))
+pub made-whole : (r : Record) → makeOf r .refusal ≡ 0 → makeOf r ≡ made (instructionOf (r .operand) (formOf (r .operand) (r .values) (r .page)))
 made-whole r z = make-makes r z .whole
 
 pub made-ready : (r : Record) (i : Instruction) → makeOf r ≡ made i → (sound i (r .values) ≡ true) × (lacks (i .operand) (i .form) ≡ false)
@@ -63,33 +64,33 @@ made-ready r i e =
     (rw (← ei) (m .right), rw (← ei) (m .has))
 
 -- ---- a fresh build
-form-below : (o : Operand) (v : Values) (dirty : Bool) → ltb (formOf o v dirty) 7 ≡ true
+form-below : (o : Operand) (v : Values) (page : Page) → ltb (formOf o v page) 7 ≡ true
 unfolding formOf registerForm extendedForm
-form-below o v dirty =
+form-below o v page =
     let P : ℕ → Type 0 = λ f. ltb f 7 ≡ true in
     by-pick P _ (by-pick P _ refl refl)
     (by-pick P _ (by-pick P _ refl (by-pick P _ refl (by-pick P _ refl refl))) (by-pick P _ refl (by-pick P _ refl (by-pick P _ refl refl))))
 
 early-made :
-    (o : Operand) (v : Values) (dirty : Bool) →
-    earlyOf (instructionOf o (formOf o v dirty)) v
+    (o : Operand) (v : Values) (page : Page) →
+    earlyOf (instructionOf o (formOf o v page)) v
     ≡ pick (recognised o && lawful v)
-    (pick (lacks o (formOf o v dirty)) noSuchMode (pick (needsValue (o .mode) (formOf o v dirty) && not (v .given)) valueMissing 0))
+    (pick (lacks o (formOf o v page)) noSuchMode (pick (needsValue (o .mode) (formOf o v page) && not (v .given)) valueMissing 0))
     unknown
 unfolding earlyOf sound instructionOf
-early-made o v dirty = rw (form-below o v dirty)
+early-made o v page = rw (form-below o v page)
 
 early-handed :
-    (i : Instruction) (v : Values) (dirty : Bool) (address n : ℕ) →
+    (i : Instruction) (v : Values) (page : Page) (address n : ℕ) →
     (n ≡ 0 → ⊥) →
     earlyOf i v ≡ n →
-    handed (buildOf i v dirty address) ≡ refusedWith noInstruction n
+    handed (buildOf i v page address) ≡ refusedWith noInstruction n
 unfolding handed buildOf pick
-early-handed i v dirty address n h e = rw (e, ne-eqb n 0 h) (rw (ne-eqb n 0 h))
+early-handed i v page address n h e = rw (e, ne-eqb n 0 h) (rw (ne-eqb n 0 h))
 
 pub fresh-built :
     (r : Record) (address : ℕ) →
-    freshOf r address ≡ handed (buildOf (instructionOf (r .operand) (formOf (r .operand) (r .values) (r .dirty))) (r .values) (r .dirty) address)
+    freshOf r address ≡ handed (buildOf (instructionOf (r .operand) (formOf (r .operand) (r .values) (r .page))) (r .values) (r .page) address)
 unfolding freshOf freshFrom makeOf madeAs pick
 fresh-built r address = go (recognised o && lawful v) refl (lacks o form) refl
   where
@@ -100,11 +101,11 @@ fresh-built r address = go (recognised o && lawful v) refl (lacks o form) refl
     v = r .values
 
     form : ℕ
-    form = formOf o v (r .dirty)
+    form = formOf o v (r .page)
 
     go :
         (a : Bool) → (recognised o && lawful v) ≡ a → (b : Bool) → lacks o form ≡ b →
-        freshOf r address ≡ handed (buildOf (instructionOf o form) v (r .dirty) address)
+        freshOf r address ≡ handed (buildOf (instructionOf o form) v (r .page) address)
     go true p false q = rw (p, q)
-    go true p true q = rw (p, q) (sym (early-handed (instructionOf o form) v (r .dirty) address noSuchMode (λ z. omega arith) (early-made o v (r .dirty) ∙ rw (p, q))))
-    go false p b q = rw p (sym (early-handed (instructionOf o form) v (r .dirty) address unknown (λ z. omega arith) (early-made o v (r .dirty) ∙ rw p)))
+    go true p true q = rw (p, q) (sym (early-handed (instructionOf o form) v (r .page) address noSuchMode (λ z. omega arith) (early-made o v (r .page) ∙ rw (p, q))))
+    go false p b q = rw p (sym (early-handed (instructionOf o form) v (r .page) address unknown (λ z. omega arith) (early-made o v (r .page) ∙ rw p)))

@@ -12,6 +12,8 @@ use Rattle.ground.specs.Choice.{pick}
 use Rattle.ground.specs.Refusals.{noSuchMode, valueMissing, branchTooFar}
 use Rattle.ground.proofs.Choices.{by-test, by-pick}
 use Rattle.ground.proofs.Tests.{both-first}
+use Rattle.values.specs.declared.pages.Page.{Page}
+use Rattle.values.specs.declared.pages.Page.the-variants.{Unknown}
 use Rattle.instruction.specs.declared.Operand.{Operand}
 use Rattle.instruction.specs.declared.Values.{Values}
 use Rattle.instruction.specs.declared.Record.{Record}
@@ -33,24 +35,24 @@ Late n = (n ≡ 0) ⊎ ((valueMissing ≤ n) × (n ≤ branchTooFar))
 
 -- ---- a build of what is sound and whose row has its form
 module _ (i : Instruction) (v : Values) (fine : sound i v ≡ true) (has : lacks (i .operand) (i .form) ≡ false) where
-  choose-late : (dirty : Bool) (address : ℕ) → Late (chooseOf i v dirty address .refusal)
+  choose-late : (page : Page) (address : ℕ) → Late (chooseOf i v page address .refusal)
   unfolding sound longBranch
-  choose-late dirty address =
+  choose-late page address =
       let P : Chosen → Type 0 = λ c. Late (c .refusal) in
-      choice i v dirty address P (λ n t. inr (omega arith)) (λ _ _ _. inl refl) (λ _ _ _. inl refl)
-      (λ _. address-choice i v dirty P (λ _ _ _. inl refl) (inr (omega arith)) (λ _ _ _ _. inr (omega arith)))
+      choice i v page address P (λ n t. inr (omega arith)) (λ _ _ _. inl refl) (λ _ _ _. inl refl)
+      (λ _. address-choice i v page P (λ _ _ _. inl refl) (inr (omega arith)) (λ _ _ _ _. inr (omega arith)))
       (not-strange (i .operand) (both-first (recognised (i .operand)) (ltb (i .form) 7 && lawful v) fine)) (lacking-none (i .operand) (i .form) has)
 
   early-late : Late (earlyOf i v)
   unfolding earlyOf pick
   early-late = rw (fine, has) (by-pick Late (needsValue (i .operand .mode) (i .form) && not (v .given)) (inr (omega arith)) (inl refl))
 
-  build-late : (dirty : Bool) (address : ℕ) → Late (buildOf i v dirty address .refusal)
+  build-late : (page : Page) (address : ℕ) → Late (buildOf i v page address .refusal)
   unfolding buildOf finishedOf acceptedOf
-  build-late dirty address =
+  build-late page address =
       let P : Built → Type 0 = λ b. Late (b .refusal) in
       by-pick P (eqb (earlyOf i v) 0)
-      (by-pick P (eqb (chooseOf i v dirty address .refusal) 0) (inl refl) (choose-late dirty address))
+      (by-pick P (eqb (chooseOf i v page address .refusal) 0) (inl refl) (choose-late page address))
       early-late
 
 -- ---- a fresh build
@@ -59,13 +61,13 @@ fresh-tells : (r : Record) (address : ℕ) → (freshOf r address .refusal ≡ m
 unfolding freshOf freshFrom handed
 fresh-tells r address =
     let i = makeOf r .instruction in
-    let b = buildOf i (r .values) (r .dirty) address in
+    let b = buildOf i (r .values) (r .page) address in
     by-test (λ (f : Built). (f .refusal ≡ makeOf r .refusal) ⊎ Late (f .refusal)) (eqb (makeOf r .refusal) 0)
     (λ q.
     let e : makeOf r ≡ record { refusal = 0; instruction = i } =
     ap {B = Made} (λ (n : ℕ). record { refusal = n; instruction = i }) (eqb-true (makeOf r .refusal) 0 q) in
     let ready = made-ready r i e in
-    let late = build-late i (r .values) (ready .0) (ready .1) (r .dirty) address in
+    let late = build-late i (r .values) (ready .0) (ready .1) (r .page) address in
     inr (by-pick (λ (f : Built). Late (f .refusal)) (eqb (b .refusal) 0) late late))
     (λ _. inl refl)
 
@@ -74,7 +76,7 @@ unfolding makeOf madeAs
 make-small r =
     let P : Made → Type 0 = λ m. m .refusal ≤ 2 in
     by-pick P (recognised (r .operand) && lawful (r .values))
-    (by-pick P (lacks (r .operand) (formOf (r .operand) (r .values) (r .dirty))) (omega arith) (omega arith))
+    (by-pick P (lacks (r .operand) (formOf (r .operand) (r .values) (r .page))) (omega arith) (omega arith))
     (omega arith)
 
 -- the operand alone is refused 1 or 2, or passes
@@ -82,7 +84,7 @@ pub operand-small : (o : Operand) → operandRefusal o ≤ noSuchMode
 unfolding operandRefusal
 operand-small o =
     let P : ℕ → Type 0 = λ n. n ≤ 2 in
-    by-pick P (recognised o) (by-pick P (lacks o (formOf o noValues false)) (omega arith) (omega arith)) (omega arith)
+    by-pick P (recognised o) (by-pick P (lacks o (formOf o noValues Unknown)) (omega arith) (omega arith)) (omega arith)
 
 -- a fresh build is refused 1 to 8, or accepted, whatever its record holds
 pub fresh-small : (r : Record) (address : ℕ) → freshOf r address .refusal ≤ branchTooFar

@@ -9,6 +9,8 @@ use borrow.Author.Tests.{eqb-true, le-ltb, ltb-true}
 use Rattle.ground.specs.Choice.{pick}
 use Rattle.ground.specs.Refusals.{valueMissing, directNotAllowed}
 use Rattle.ground.proofs.Choices.{by-test, by-pick}
+use Rattle.values.specs.declared.pages.Page.{Page}
+use Rattle.values.specs.Pages.{reaches}
 use Rattle.rows.specs.Forms.{direct}
 use Rattle.instruction.specs.declared.Operand.{Operand}
 use Rattle.instruction.specs.declared.Values.{Values}
@@ -17,7 +19,7 @@ use Rattle.instruction.specs.declared.Chosen.{Chosen}
 use Rattle.instruction.specs.declared.Built.{Built}
 use Rattle.instruction.specs.Names.{modeDirect}
 use Rattle.instruction.specs.Records.{sound}
-use Rattle.instruction.specs.Forms.{onPage, becomesDirect, lacks, needsValue}
+use Rattle.instruction.specs.Forms.{becomesDirect, lacks, needsValue}
 use Rattle.instruction.specs.Choosing.{leavesDirect, staysDirect, directlyOf, addressOf, longBranch, chooseOf}
 use Rattle.instruction.specs.Building.{earlyOf, acceptedOf, finishedOf, buildOf}
 use Rattle.instruction.specs.Sequences.{Present, builtWith, OutOfReach, SevenDirect}
@@ -41,13 +43,13 @@ seven-there i p =
     let P : Built → Type 0 = λ b. b .refusal ≡ directNotAllowed → OutOfReach i p in
     let Q : Chosen → Type 0 = λ c. c .refusal ≡ directNotAllowed → OutOfReach i p in
     let v = p .values in
-    let c = chooseOf i v (p .dirty) (p .address) in
+    let c = chooseOf i v (p .page) (p .address) in
     by-test P (eqb (earlyOf i v) 0)
     (λ e. let passed = eqb-true (earlyOf i v) 0 e in
     let left = early-leaves i v passed in
     by-pick P (eqb (c .refusal) 0) (λ z. absurd (omega arith))
-    (choice i v (p .dirty) (p .address) Q (λ n t z. absurd (t .1 .1 z)) (λ _ _ _ z. absurd (omega arith)) (λ _ _ _ z. absurd (omega arith))
-    (λ _. address-choice i v (p .dirty) Q (λ _ _ _ z. absurd (omega arith)) (λ z. absurd (omega arith))
+    (choice i v (p .page) (p .address) Q (λ n t z. absurd (t .1 .1 z)) (λ _ _ _ z. absurd (omega arith)) (λ _ _ _ z. absurd (omega arith))
+    (λ _. address-choice i v (p .page) Q (λ _ _ _ z. absurd (omega arith)) (λ z. absurd (omega arith))
     (λ m f b u _. record {
       passed = passed;
       mode = eqb-true (i .operand .mode) modeDirect m;
@@ -59,17 +61,13 @@ seven-there i p =
     (λ _ z. absurd (omega (arith, z, early-small i v)))
 
 -- what Direct does not reach does not become Direct
-beyond-stays : (o : Operand) (v : Values) (dirty : Bool) → (dirty || ltb 255 (v .unsigned .number)) ≡ true → becomesDirect o v dirty ≡ false
-unfolding becomesDirect onPage
-beyond-stays o v true b = not-third (v .given) (not (o .forced))
-beyond-stays o v false b =
-    let n = v .unsigned .number in
-    let l = ltb-true 255 n b in
-    rw (le-ltb n 256 (omega arith)) (not-third (v .given) (not (o .forced)))
+beyond-stays : (o : Operand) (v : Values) (page : Page) → reaches page (v .unsigned .number) ≡ false → becomesDirect o v page ≡ false
+unfolding becomesDirect
+beyond-stays o v page b = rw b (not-third (v .given) (not (o .forced)))
 
 seven-back : (i : Instruction) (p : Present) → OutOfReach i p → builtWith i p .refusal ≡ directNotAllowed
 unfolding buildOf finishedOf chooseOf addressOf directlyOf staysDirect leavesDirect pick
-seven-back i p x = rw (x .passed, beyond-stays (i .operand) (p .values) (p .dirty) (x .beyond), x .beyond, x .unmarked, x .mode, x .form)
+seven-back i p x = rw (x .passed, beyond-stays (i .operand) (p .values) (p .page) (x .beyond), x .beyond, x .unmarked, x .mode, x .form)
 
 pub seven-direct : SevenDirect
 seven-direct i p = (seven-there i p, seven-back i p)

@@ -14,6 +14,7 @@ use Rattle.ground.specs.Choice.{pick}
 use Rattle.ground.specs.Words.{plus, minus}
 use Rattle.ground.proofs.Choices.{pick-true, pick-false, by-test, by-pick}
 use Rattle.ground.proofs.Ranges.{below}
+use Rattle.values.specs.declared.pages.Page.{Page}
 use Rattle.rows.specs.declared.Coded.the-variants.{Code}
 use Rattle.rows.specs.Forms.{immediate, direct, indexed, extended, relative, register}
 use Rattle.rows.specs.Lookup.{hasFormOf, codeOf, forms}
@@ -124,46 +125,46 @@ relative-some target after ind =
     by-pick (λ (e : Encoded). 1 ≤ e .length) (nearOf (minus target (plus after 2))) (omega arith) (omega arith)
 
 argument-least :
-    (operand : Operand) (address o form p c : ℕ) (a : Argument) (after : ℕ) →
+    (operand : Operand) (page : Page) (address o form p c : ℕ) (a : Argument) (after : ℕ) →
     codeOf o form ≡ Code p c →
-    ArgumentFits operand address o form a →
+    ArgumentFits operand page address o form a →
     least form p c ≤ operandBytes o form a after .length
 unfolding operandBytes least numberAt pick
-argument-least operand address o form p c Nothing after e f = rw f (omega arith)
-argument-least operand address o form p c (Number n) after e f = from (f .formed)
+argument-least operand page address o form p c Nothing after e f = rw f (omega arith)
+argument-least operand page address o form p c (Number n) after e f = from (f .formed)
   where
     from : (form ≡ immediate) ⊎ ((form ≡ direct) ⊎ (form ≡ extended)) → least form p c ≤ numberBytes (numberSizeOf o form) n .length
     from (inl q) = number-least o form p c n e (rw q)
     from (inr (inl q)) = number-least o form p c n e (rw q)
     from (inr (inr q)) = number-least o form p c n e (rw q)
-argument-least operand address o form p c (Target t) after e f = number-least o form p c _ e (rw (f .formed))
-argument-least operand address o form p c (Indexed index) after e f =
+argument-least operand page address o form p c (Target t) after e f = number-least o form p c _ e (rw (f .formed))
+argument-least operand page address o form p c (Indexed index) after e f =
     postbyte-least form p c _ (rw (f .formed)) (read-back index (f .accepted) [] .some)
-argument-least operand address o form p c (Relative t ind) after e f =
+argument-least operand page address o form p c (Relative t ind) after e f =
     postbyte-least form p c _ (rw (f .formed)) (relative-some t after ind)
-argument-least operand address o form p c (Registers b) after e f = postbyte-least form p c 1 (rw (f .formed)) (omega arith)
+argument-least operand page address o form p c (Registers b) after e f = postbyte-least form p c 1 (rw (f .formed)) (omega arith)
 
-laid-least : (operand : Operand) (address : ℕ) (c : Chosen) (p k : ℕ) → codeOf (c .operation) (c .form) ≡ Code p k → Fits operand address c → leastAt (c .form) p k ≤ laidOf c address .length
+laid-least : (operand : Operand) (page : Page) (address : ℕ) (c : Chosen) (p k : ℕ) → codeOf (c .operation) (c .form) ≡ Code p k → Fits operand page address c → leastAt (c .form) p k ≤ laidOf c address .length
 unfolding laidOf laidAt leastAt prefixed least
-laid-least operand address c p k e f =
+laid-least operand page address c p k e f =
     rw e
     (let b = operandBytes (c .operation) (c .form) (c .argument) (plus address (codeSize p)) in
-    omega (arith, behind-length p k b, argument-least operand address (c .operation) (c .form) p k (c .argument) (plus address (codeSize p)) e (f .argument)))
+    omega (arith, behind-length p k b, argument-least operand page address (c .operation) (c .form) p k (c .argument) (plus address (codeSize p)) e (f .argument)))
 
 -- a branch has its code and its distance
 branch-least : (o p c : ℕ) → codeOf o relative ≡ Code p c → leastAt relative p c ≡ prefixed p + numberSizeOf o relative
 unfolding leastAt prefixed pick
 branch-least o p c e = ap (λ (n : ℕ). pick (eqb p 0x00) 1 2 + n) (sym (number-at o relative p c e))
 
-chosen-size : (operand : Operand) (address : ℕ) (c : Chosen) → Fits operand address c → smallestSizeOf (operand .operation) ≤ laidOf c address .length
+chosen-size : (operand : Operand) (page : Page) (address : ℕ) (c : Chosen) → Fits operand page address c → smallestSizeOf (operand .operation) ≤ laidOf c address .length
 unfolding prefixed pick
-chosen-size operand address c f = from (f .operation)
+chosen-size operand page address c f = from (f .operation)
   where
     k : Has (c .operation) (c .form)
     k = has-code (c .operation) (c .form) (f .row)
 
     laid : leastAt (c .form) (k .page) (k .code) ≤ laidOf c address .length
-    laid = laid-least operand address c (k .page) (k .code) (k .coded) f
+    laid = laid-least operand page address c (k .page) (k .code) (k .coded) f
 
     from : (c .operation ≡ operand .operation) ⊎ Widens (operand .operation) c → smallestSizeOf (operand .operation) ≤ laidOf c address .length
     from (inl e) =
@@ -185,12 +186,12 @@ chosen-size operand address c f = from (f .operation)
 
 -- from the row's smallest size to five
 pub size-between :
-    (i : Instruction) (v : Values) (dirty : Bool) (address : ℕ) →
-    buildOf i v dirty address .refusal ≡ 0 →
-    (smallestSizeOf (i .operand .operation) ≤ buildOf i v dirty address .length) × (buildOf i v dirty address .length ≤ 5)
+    (i : Instruction) (v : Values) (page : Page) (address : ℕ) →
+    buildOf i v page address .refusal ≡ 0 →
+    (smallestSizeOf (i .operand .operation) ≤ buildOf i v page address .length) × (buildOf i v page address .length ≤ 5)
 unfolding acceptedOf
-size-between i v dirty address e =
-    let k = build-chosen i v dirty address e in (
-      rw (k .built) (chosen-size (i .operand) address (chooseOf i v dirty address) (k .fits)),
-      build-five i v dirty address .most,
+size-between i v page address e =
+    let k = build-chosen i v page address e in (
+      rw (k .built) (chosen-size (i .operand) page address (chooseOf i v page address) (k .fits)),
+      build-five i v page address .most,
     )

@@ -6,6 +6,8 @@ use lib.Dec.{eqb, ltb}
 use lib.ListN.{length, take, drop, replicate}
 use Rattle.ground.specs.Choice.{pick}
 use Rattle.ground.specs.Refusals.{unknown, noSuchMode, valueMissing, noRoom}
+use Rattle.values.specs.declared.pages.Page.{Page}
+use Rattle.values.specs.declared.pages.Page.the-variants.{Unknown}
 use Rattle.rows.specs.Forms.{direct}
 use Rattle.postbytes.specs.Registers.{DP}
 use Rattle.postbytes.specs.Lists.{among}
@@ -58,12 +60,12 @@ madeAs o form = pick (lacks o form) (unmade noSuchMode) (record { refusal = 0; i
 unfoldable pub makeOf : Record → Made
 makeOf r =
     pick (recognised (r .operand) && lawful (r .values))
-    (madeAs (r .operand) (formOf (r .operand) (r .values) (r .dirty)))
+    (madeAs (r .operand) (formOf (r .operand) (r .values) (r .page)))
     (unmade unknown)
 
 -- 1 and 2 as they are told before any value is evaluated: a value chooses between Direct and Extended alone, and a row has both or none
 unfoldable pub operandRefusal : Operand → ℕ
-operandRefusal o = pick (recognised o) (pick (lacks o (formOf o noValues false)) noSuchMode 0) unknown
+operandRefusal o = pick (recognised o) (pick (lacks o (formOf o noValues Unknown)) noSuchMode 0) unknown
 
 -- ---- build
 -- 1, 2 and 3, in this order; 0 is none of them
@@ -74,7 +76,7 @@ earlyOf i v =
     (pick (needsValue (i .operand .mode) (i .form) && not (v .given)) valueMissing 0))
     unknown
 
--- "DP is dirtied by TFR to DP, and by EXG, PULS, PULU naming DP."
+-- "DP is dirtied by TFR to DP, and by EXG, PULS, PULU naming DP"; "An operation that dirtied the page now makes it unknown."
 unfoldable pub dirtiesOf : Operand → Bool
 dirtiesOf o =
     pick (eqb (o .operation) tfr) (eqb (registerAt o 1) DP)
@@ -98,9 +100,9 @@ acceptedOf i c address = record {
 unfoldable pub finishedOf : Instruction → Chosen → ℕ → Built
 finishedOf i c address = pick (eqb (c .refusal) 0) (acceptedOf i c address) (refusedWith i (c .refusal))
 
-unfoldable pub buildOf : Instruction → Values → Bool → ℕ → Built
-buildOf i v dirty address =
-    pick (eqb (earlyOf i v) 0) (finishedOf i (chooseOf i v dirty address) address) (refusedWith i (earlyOf i v))
+unfoldable pub buildOf : Instruction → Values → Page → ℕ → Built
+buildOf i v page address =
+    pick (eqb (earlyOf i v) 0) (finishedOf i (chooseOf i v page address) address) (refusedWith i (earlyOf i v))
 
 -- what is handed out of a build whose instruction nobody had before
 unfoldable pub handed : Built → Built
@@ -110,7 +112,7 @@ handed b = pick (eqb (b .refusal) 0) b (refusedWith noInstruction (b .refusal))
 unfoldable pub freshFrom : Made → Record → ℕ → Built
 freshFrom m r address =
     pick (eqb (m .refusal) 0)
-    (handed (buildOf (m .instruction) (r .values) (r .dirty) address))
+    (handed (buildOf (m .instruction) (r .values) (r .page) address))
     (refusedWith noInstruction (m .refusal))
 
 unfoldable pub freshOf : Record → ℕ → Built

@@ -1,4 +1,4 @@
--- 01, "Choosing the form" and "Index postbytes": what one build of an instruction settles on, or the refusal.
+-- 01, "Choosing the form", under a page (02 e), and "Index postbytes": what one build of an instruction settles on, or the refusal.
 use Prim.Native.Nat.{ℕ}
 use mathlib.Core.Bool.{Bool, true, false, _&&_, _||_, not}
 use lib.Dec.{eqb, ltb}
@@ -7,6 +7,8 @@ use Rattle.ground.specs.Choice.{pick}
 use Rattle.ground.specs.Words.{plus, minus}
 use Rattle.ground.specs.Refusals.{badRegister, singleStepIndirect, badWidth, directNotAllowed, branchTooFar}
 use Rattle.values.specs.declared.Value.{Value}
+use Rattle.values.specs.declared.pages.Page.{Page}
+use Rattle.values.specs.Pages.{reaches, isZero}
 use Rattle.rows.specs.Forms.{inherent, immediate, direct, indexed, extended, relative, register}
 use Rattle.rows.specs.Sizes.{numberSizeOf, longOf}
 use Rattle.postbytes.specs.declared.Index.the-variants.{Offset, Counter, Accumulator, Step, Address}
@@ -45,9 +47,9 @@ immediateOf i v =
     (settled i immediate (Number (v .unsigned .number)))
 
 -- ---- Direct and Extended
--- "Forced Direct with a 16-bit-wide value is refused 6."
-unfoldable pub forcedWide : Instruction → Values → Bool
-forcedWide i v = i .operand .forced && eqb (v .unsigned .width) 16
+-- "Forced Direct with a 16-bit-wide value is refused 6.", "under known page 0 only": under any other page every right value is wide
+unfoldable pub forcedWide : Instruction → Values → Page → Bool
+forcedWide i v page = i .operand .forced && (eqb (v .unsigned .width) 16 && isZero page)
 
 -- "on trial it becomes Extended and the mark goes; otherwise refusal 7"
 unfoldable pub leavesDirect : Instruction → Values → Chosen
@@ -63,17 +65,18 @@ leavesDirect i v =
     })
     (refuse directNotAllowed)
 
--- "Else, Direct with page dirty or value above 255"
-unfoldable pub staysDirect : Instruction → Values → Bool → Chosen
-staysDirect i v dirty =
-    pick (dirty || ltb 255 (v .unsigned .number)) (leavesDirect i v)
-    (pick (forcedWide i v) (refuse badWidth) (settled i direct (Number (v .unsigned .number))))
+-- what is Direct leaves it where its "page is unknown or not its high byte"
+unfoldable pub staysDirect : Instruction → Values → Page → Chosen
+staysDirect i v page =
+    pick (reaches page (v .unsigned .number))
+    (pick (forcedWide i v page) (refuse badWidth) (settled i direct (Number (v .unsigned .number))))
+    (leavesDirect i v)
 
--- parser mode Direct. "At each build: clean, unforced, below 256, .. Direct: becomes Direct."
-unfoldable pub directlyOf : Instruction → Values → Bool → Chosen
-directlyOf i v dirty =
-    pick (becomesDirect (i .operand) v dirty) (settled i direct (Number (v .unsigned .number)))
-    (pick (eqb (i .form) direct) (staysDirect i v dirty)
+-- parser mode Direct. "At each build: .. unforced, .. Direct: becomes Direct", on its page.
+unfoldable pub directlyOf : Instruction → Values → Page → Chosen
+directlyOf i v page =
+    pick (becomesDirect (i .operand) v page) (settled i direct (Number (v .unsigned .number)))
+    (pick (eqb (i .form) direct) (staysDirect i v page)
     (settled i extended (Number (v .unsigned .number))))
 
 -- any other mode. 02 n: "an unforced one in Extended mode, on a row with Extended, becomes Extended each time": the form is chosen anew, as a fresh
@@ -88,12 +91,12 @@ anewAs i v form = record {
   argument = Number (v .unsigned .number);
 }
 
-unfoldable pub anewOf : Instruction → Values → Bool → Chosen
-anewOf i v dirty = anewAs i v (pick (becomesDirect (i .operand) v dirty) direct extended)
+unfoldable pub anewOf : Instruction → Values → Page → Chosen
+anewOf i v page = anewAs i v (pick (becomesDirect (i .operand) v page) direct extended)
 
 -- "7 only where the parser mode is Direct"
-unfoldable pub addressOf : Instruction → Values → Bool → Chosen
-addressOf i v dirty = pick (eqb (i .operand .mode) modeDirect) (directlyOf i v dirty) (anewOf i v dirty)
+unfoldable pub addressOf : Instruction → Values → Page → Chosen
+addressOf i v page = pick (eqb (i .operand .mode) modeDirect) (directlyOf i v page) (anewOf i v page)
 
 -- ---- Relative
 -- a short branch that was made long, now or in an earlier build
@@ -184,10 +187,10 @@ registersOf i =
     (refuse (listedOf (i .operand) .refusal))
 
 -- ---- every form
-unfoldable pub chooseOf : Instruction → Values → Bool → ℕ → Chosen
-chooseOf i v dirty address =
+unfoldable pub chooseOf : Instruction → Values → Page → ℕ → Chosen
+chooseOf i v page address =
     pick (eqb (i .form) inherent) (inherentOf i v)
     (pick (eqb (i .form) immediate) (immediateOf i v)
-    (pick (eqb (i .form) direct || eqb (i .form) extended) (addressOf i v dirty)
+    (pick (eqb (i .form) direct || eqb (i .form) extended) (addressOf i v page)
     (pick (eqb (i .form) indexed) (indexOf i v)
     (pick (eqb (i .form) relative) (branchOf i v address) (registersOf i)))))

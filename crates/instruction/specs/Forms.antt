@@ -1,38 +1,36 @@
--- 01, "Choosing the form": the form that a record asks for.
+-- 01, "Choosing the form", under a page (02 e): the form that a record asks for.
 use Prim.Native.Nat.{ℕ}
 use mathlib.Core.Bool.{Bool, _&&_, _||_, not}
 use lib.Dec.{eqb, ltb, leb}
 use Rattle.ground.specs.Choice.{pick}
+use Rattle.values.specs.declared.pages.Page.{Page}
+use Rattle.values.specs.Pages.{reaches}
 use Rattle.rows.specs.Forms.{inherent, immediate, direct, indexed, extended, relative, register}
 use Rattle.rows.specs.Lookup.{hasFormOf}
 use Rattle.instruction.specs.declared.Operand.{Operand}
 use Rattle.instruction.specs.declared.Values.{Values}
 use Rattle.instruction.specs.Names.{modeRegister, modePcRelative, modeExtended, modeDirect, modeImmediate, modeInherent}
 
--- the page test: an address that one byte reaches
-unfoldable pub onPage : Bool → ℕ → Bool
-onPage dirty n = not dirty && ltb n 256
+-- "An unforced address is Direct when the page is known and equals its high byte", when it is made and at each build
+unfoldable pub becomesDirect : Operand → Values → Page → Bool
+becomesDirect o v page = v .given && (not (o .forced) && reaches page (v .unsigned .number))
 
--- "clean, unforced and below 256 is Direct", when it is made; "clean, unforced, below 256, Extended or Direct: becomes Direct", at each build
-unfoldable pub becomesDirect : Operand → Values → Bool → Bool
-becomesDirect o v dirty = v .given && (not (o .forced) && onPage dirty (v .unsigned .number))
-
--- "Extended mode: indirect is Indexed; a row without Extended but with Relative is Relative; clean, unforced and below 256 is Direct"
-unfoldable pub extendedForm : Operand → Values → Bool → ℕ
-extendedForm o v dirty =
+-- "Extended mode: indirect is Indexed; a row without Extended but with Relative is Relative", and then by the page
+unfoldable pub extendedForm : Operand → Values → Page → ℕ
+extendedForm o v page =
     pick (o .indirect) indexed
     (pick (not (hasFormOf (o .operation) extended) && hasFormOf (o .operation) relative) relative
-    (pick (becomesDirect o v dirty) direct extended))
+    (pick (becomesDirect o v page) direct extended))
 
 -- "These six rows take Register mode only"; "Elsewhere Register mode is the accumulator offset"
 unfoldable pub registerForm : Operand → ℕ
 registerForm o = pick (hasFormOf (o .operation) register) register indexed
 
 -- Offset, PCRelative and IncDec are indexed
-unfoldable pub formOf : Operand → Values → Bool → ℕ
-formOf o v dirty =
+unfoldable pub formOf : Operand → Values → Page → ℕ
+formOf o v page =
     pick (eqb (o .mode) modeRegister) (registerForm o)
-    (pick (eqb (o .mode) modeExtended) (extendedForm o v dirty)
+    (pick (eqb (o .mode) modeExtended) (extendedForm o v page)
     (pick (eqb (o .mode) modeDirect) direct
     (pick (eqb (o .mode) modeImmediate) immediate
     (pick (eqb (o .mode) modeInherent) inherent indexed))))

@@ -1,11 +1,12 @@
 -- 02 n: "in any sequence of builds, after each accepted one, mode and bytes are those of a fresh one with the same values and page. A widened branch still
 -- stays long. .. Refusals: 7 only where the parser mode is Direct."
 use mathlib.Core.Path.{_≡_}
-use mathlib.Core.Bool.{Bool, true, false, _||_}
+use mathlib.Core.Bool.{true, false}
 use mathlib.Core.List.{List, [], _∷_, _++_}
 use Prim.Native.Nat.{ℕ}
-use lib.Dec.{ltb}
 use Rattle.ground.specs.Refusals.{directNotAllowed}
+use Rattle.values.specs.declared.pages.Page.{Page}
+use Rattle.values.specs.Pages.{reaches}
 use Rattle.rows.specs.Forms.{direct, extended, relative}
 use Rattle.rows.specs.Lookup.{hasFormOf}
 use Rattle.rows.specs.Sizes.{numberSizeOf, longOf}
@@ -22,11 +23,11 @@ use Rattle.instruction.specs.Building.{makeOf, earlyOf, buildOf, handed,
 -- what a build takes anew
 pub record Present : Type 0 where
   pub values : Values
-  pub dirty : Bool
+  pub page : Page
   pub address : ℕ
 
 abbrev pub builtWith : Instruction → Present → Built
-builtWith i p = buildOf i (p .values) (p .dirty) (p .address)
+builtWith i p = buildOf i (p .values) (p .page) (p .address)
 
 -- a kept instruction after builds, one after the other; a refused one leaves it as it was
 unfoldable pub keptAfter : Instruction → List Present → Instruction
@@ -35,7 +36,7 @@ keptAfter i (p ∷ ps) = keptAfter (builtWith i p .instruction) ps
 
 -- a fresh one of an operand
 abbrev pub freshWith : Operand → Present → Built
-freshWith o p = freshOf (record { operand = o; dirty = p .dirty; values = p .values }) (p .address)
+freshWith o p = freshOf (record { operand = o; page = p .page; values = p .values }) (p .address)
 
 -- each build of an instruction that was made, after any builds, answers as a fresh one: bytes, form, mark, page and refusal; a widened branch aside
 abbrev pub AsFresh : Type 0
@@ -59,7 +60,7 @@ OnlyShortWidens =
     (r : Record) (ps : List Present) →
     makeOf r .refusal ≡ 0 →
     keptAfter (makeOf r .instruction) ps .widened ≡ true →
-    (formOf (r .operand) (r .values) (r .dirty) ≡ relative) × ((numberSizeOf (r .operand .operation) relative ≡ 1) × (r .operand .widening ≡ true))
+    (formOf (r .operand) (r .values) (r .page) ≡ relative) × ((numberSizeOf (r .operand .operation) relative ≡ 1) × (r .operand .widening ≡ true))
 
 -- "on a row with Extended": never, whatever the mode, so of these rows AsFresh says it of every build
 abbrev pub NeverWidened : Type 0
@@ -95,13 +96,13 @@ LongAfter =
     × (builtWith (keptAfter (makeOf r .instruction) ps) p ≡ handingBack (longKept (r .operand)) (freshWith (lengthened (r .operand)) p))
 
 -- ---- refusal 7
--- in parser mode Direct, 1 to 3 passed: Direct, not on trial, "with page dirty or value above 255"
+-- in parser mode Direct, 1 to 3 passed: "a Direct not on trial whose page is unknown or not its high byte"
 pub record OutOfReach (i : Instruction) (p : Present) : Type 0 where
   pub passed : earlyOf i (p .values) ≡ 0
   pub mode : i .operand .mode ≡ modeDirect
   pub form : i .form ≡ direct
   pub unmarked : i .trial ≡ false
-  pub beyond : (p .dirty || ltb 255 (p .values .unsigned .number)) ≡ true
+  pub beyond : reaches (p .page) (p .values .unsigned .number) ≡ false
 
 -- "7 only where the parser mode is Direct": of every kept instruction, and there exactly when it is out of reach
 abbrev pub SevenDirect : Type 0

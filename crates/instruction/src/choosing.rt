@@ -16,6 +16,7 @@ use postbytes::numbers::U;
 use postbytes::numbers::X;
 use rows::forms::*;
 use values::Value;
+use values::pages::Page;
 ghost use mathlib.Core.Path.{_≡_};
 ghost use Rattle.postbytes.specs.Registers.{notIndexing};
 ghost use Rattle.instruction.specs.Choosing.{refuse, settled, inherentOf, immediateOf, forcedWide, leavesDirect, staysDirect, directlyOf, anewAs, anewOf, addressOf, longBranch, branchOf, offsetValue, accumulatorIndex, offsetIndex, targetIndex, stepIndex, addressIndex, indexOf, isPair, ownStack, listedOf, registersOf, chooseOf};
@@ -69,12 +70,13 @@ fn immediate(i: Instruction, v: Values) -> Chosen
     settle(i, IMMEDIATE, Argument::Number(u.number))
 }
 
-fn is_forced_wide(i: Instruction, v: Values) -> bool
-    ensures { λ r. ⌜ r ≡ forcedWide i v ⌝ }
+// "under known page 0 only": under any other page every right value is wide.
+fn is_forced_wide(i: Instruction, v: Values, page: Page) -> bool
+    ensures { λ r. ⌜ r ≡ forcedWide i v page ⌝ }
 {
     let o = i.operand;
     let u = v.unsigned;
-    o.forced & (u.width == 16)
+    o.forced & ((u.width == 16) & page.is_zero())
 }
 
 // On trial an address that Direct does not reach is Extended after all. No call sets the mark in parser mode Direct; a row that has it is built by 01's rule.
@@ -97,32 +99,31 @@ fn leave_direct(i: Instruction, v: Values) -> Chosen
 }
 
 // What is Direct stays so where its page and its value allow.
-fn stay_direct(i: Instruction, v: Values, dirty: bool) -> Chosen
-    ensures { λ r. ⌜ r ≡ staysDirect i v dirty ⌝ }
+fn stay_direct(i: Instruction, v: Values, page: Page) -> Chosen
+    ensures { λ r. ⌜ r ≡ staysDirect i v page ⌝ }
 {
     let u = v.unsigned;
-    let barred = dirty | (255 < u.number);
-    if barred {
-        return leave_direct(i, v);
+    if page.reaches(u.number) {
+        if is_forced_wide(i, v, page) {
+            return refused(refusals::BAD_WIDTH);
+        }
+        return settle(i, DIRECT, Argument::Number(u.number));
     }
-    if is_forced_wide(i, v) {
-        return refused(refusals::BAD_WIDTH);
-    }
-    settle(i, DIRECT, Argument::Number(u.number))
+    leave_direct(i, v)
 }
 
 // Parser mode Direct.
-fn directly(i: Instruction, v: Values, dirty: bool) -> Chosen
-    ensures { λ r. ⌜ r ≡ directlyOf i v dirty ⌝ }
+fn directly(i: Instruction, v: Values, page: Page) -> Chosen
+    ensures { λ r. ⌜ r ≡ directlyOf i v page ⌝ }
 {
     let o = i.operand;
     let u = v.unsigned;
     let number = u.number;
-    if becomes_direct(o, v, dirty) {
+    if becomes_direct(o, v, page) {
         return settle(i, DIRECT, Argument::Number(number));
     }
     if i.form == DIRECT {
-        return stay_direct(i, v, dirty);
+        return stay_direct(i, v, page);
     }
     settle(i, EXTENDED, Argument::Number(number))
 }
@@ -145,24 +146,24 @@ fn anew_as(i: Instruction, v: Values, form: u8) -> Chosen
 }
 
 // Any other mode: the form is chosen anew at each build, as a fresh instruction's is.
-fn anew(i: Instruction, v: Values, dirty: bool) -> Chosen
-    ensures { λ r. ⌜ r ≡ anewOf i v dirty ⌝ }
+fn anew(i: Instruction, v: Values, page: Page) -> Chosen
+    ensures { λ r. ⌜ r ≡ anewOf i v page ⌝ }
 {
     let o = i.operand;
-    if becomes_direct(o, v, dirty) {
+    if becomes_direct(o, v, page) {
         return anew_as(i, v, DIRECT);
     }
     anew_as(i, v, EXTENDED)
 }
 
-fn address(i: Instruction, v: Values, dirty: bool) -> Chosen
-    ensures { λ r. ⌜ r ≡ addressOf i v dirty ⌝ }
+fn address(i: Instruction, v: Values, page: Page) -> Chosen
+    ensures { λ r. ⌜ r ≡ addressOf i v page ⌝ }
 {
     let o = i.operand;
     if o.mode == MODE_DIRECT {
-        return directly(i, v, dirty);
+        return directly(i, v, page);
     }
-    anew(i, v, dirty)
+    anew(i, v, page)
 }
 
 // A short branch that was made long, now or in an earlier build.
@@ -365,15 +366,15 @@ fn registers(i: Instruction) -> Chosen
     settle(i, REGISTER, Argument::Registers(list.byte))
 }
 
-pub(crate) fn choose(i: Instruction, v: Values, dirty: bool, at: u16) -> Chosen
-    ensures { λ r. ⌜ r ≡ chooseOf i v dirty at ⌝ }
+pub(crate) fn choose(i: Instruction, v: Values, page: Page, at: u16) -> Chosen
+    ensures { λ r. ⌜ r ≡ chooseOf i v page at ⌝ }
 {
     let form = i.form;
     match form {
         INHERENT => inherent(i, v),
         IMMEDIATE => immediate(i, v),
-        DIRECT => address(i, v, dirty),
-        EXTENDED => address(i, v, dirty),
+        DIRECT => address(i, v, page),
+        EXTENDED => address(i, v, page),
         INDEXED => index(i, v),
         RELATIVE => branch(i, v, at),
         _ => registers(i),

@@ -3,25 +3,19 @@ use crate::Operand;
 use crate::Values;
 use crate::names::*;
 use rows::forms::*;
+use values::pages::Page;
 ghost use mathlib.Core.Path.{_≡_};
-ghost use Rattle.instruction.specs.Forms.{onPage, becomesDirect, extendedForm, registerForm, formOf, strays, lacks, needsValue};
+ghost use Rattle.instruction.specs.Forms.{becomesDirect, extendedForm, registerForm, formOf, strays, lacks, needsValue};
 
-// The page test: an address that one byte reaches.
-fn is_on_page(dirty: bool, n: u16) -> bool
-    ensures { λ r. ⌜ r ≡ onPage dirty n ⌝ }
-{
-    !dirty & (n < 256)
-}
-
-pub(crate) fn becomes_direct(o: Operand, v: Values, dirty: bool) -> bool
-    ensures { λ r. ⌜ r ≡ becomesDirect o v dirty ⌝ }
+pub(crate) fn becomes_direct(o: Operand, v: Values, page: Page) -> bool
+    ensures { λ r. ⌜ r ≡ becomesDirect o v page ⌝ }
 {
     let u = v.unsigned;
-    v.given & (!o.forced & is_on_page(dirty, u.number))
+    v.given & (!o.forced & page.reaches(u.number))
 }
 
-fn extended_form(o: Operand, v: Values, dirty: bool) -> u8
-    ensures { λ r. ⌜ r ≡ extendedForm o v dirty ⌝ }
+fn extended_form(o: Operand, v: Values, page: Page) -> u8
+    ensures { λ r. ⌜ r ≡ extendedForm o v page ⌝ }
 {
     if o.indirect {
         return INDEXED;
@@ -30,7 +24,7 @@ fn extended_form(o: Operand, v: Values, dirty: bool) -> u8
     if branches {
         return RELATIVE;
     }
-    if becomes_direct(o, v, dirty) {
+    if becomes_direct(o, v, page) {
         return DIRECT;
     }
     EXTENDED
@@ -46,13 +40,13 @@ fn register_form(o: Operand) -> u8
     INDEXED
 }
 
-pub(crate) fn form_for(o: Operand, v: Values, dirty: bool) -> u8
-    ensures { λ r. ⌜ r ≡ formOf o v dirty ⌝ }
+pub(crate) fn form_for(o: Operand, v: Values, page: Page) -> u8
+    ensures { λ r. ⌜ r ≡ formOf o v page ⌝ }
 {
     let mode = o.mode;
     match mode {
         MODE_REGISTER => register_form(o),
-        MODE_EXTENDED => extended_form(o, v, dirty),
+        MODE_EXTENDED => extended_form(o, v, page),
         MODE_DIRECT => DIRECT,
         MODE_IMMEDIATE => IMMEDIATE,
         MODE_INHERENT => INHERENT,

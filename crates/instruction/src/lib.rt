@@ -23,6 +23,7 @@ use validity::is_missing;
 use validity::is_recognised;
 use validity::is_sound;
 use values::Value;
+use values::pages::Page;
 ghost use mathlib.Core.Path.{_≡_};
 ghost use lib.ListN.{length};
 ghost use Rattle.instruction.specs.Building.{noOperand, noInstruction, noValues, instructionOf, unmade, makeOf, operandRefusal, dirtiesOf, refusedWith, buildOf, handed, freshOf, placedOf, bufferOf};
@@ -50,7 +51,7 @@ pub struct Values {
 // The operand record: with the page and the values of one build.
 pub struct Record {
     pub operand: Operand,
-    pub dirty: bool,
+    pub page: Page,
     pub values: Values,
 }
 
@@ -184,7 +185,7 @@ fn unmade(n: u8) -> Made
     }
 }
 
-// Whether an instruction that is accepted dirties the page.
+// Whether an instruction that is accepted leaves the page unknown.
 fn dirties(o: Operand) -> bool
     ensures { λ r. ⌜ r ≡ dirtiesOf o ⌝ }
 {
@@ -219,7 +220,7 @@ impl Operand {
         ensures { λ r. ⌜ r ≡ operandRefusal self ⌝ }
     {
         if is_recognised(self) {
-            let form = form_for(self, no_values(), false);
+            let form = form_for(self, no_values(), Page::Unknown);
             if is_lacking(self, form) {
                 return refusals::NO_SUCH_MODE;
             }
@@ -236,9 +237,10 @@ impl Instruction {
     {
         let o = r.operand;
         let v = r.values;
+        let page = r.page;
         let known = is_recognised(o) & is_lawful(v);
         if known {
-            let form = form_for(o, v, r.dirty);
+            let form = form_for(o, v, page);
             if is_lacking(o, form) {
                 return unmade(refusals::NO_SUCH_MODE);
             }
@@ -276,10 +278,10 @@ impl Instruction {
     }
 
     // What a build comes to: the first refusal with the form and the marks as they were, or what is chosen, with its bytes behind the row's code.
-    fn outcome(self, v: Values, dirty: bool, address: u16) -> Outcome
-        ensures { λ r. ⌜ r ≡ outcomeOf (buildOf self v dirty address) ⌝ }
+    fn outcome(self, v: Values, page: Page, address: u16) -> Outcome
+        ensures { λ r. ⌜ r ≡ outcomeOf (buildOf self v page address) ⌝ }
     {
-        let c = choose(self, v, dirty, address);
+        let c = choose(self, v, page, address);
         let coded = rows::code_of(c.operation, c.form);
         let n = self.first_refusal(v, c, coded);
         if n != 0 {
@@ -326,20 +328,20 @@ impl Instruction {
 
     // The instruction is taken by value and handed back, with its new form, trial mark and widening beside its bytes. A refusal hands it back
     // unchanged, with zeros.
-    pub fn build(mut self, v: Values, dirty: bool, address: u16) -> Built
-        ensures { λ r. ⌜ r ≡ buildOf self v dirty address ⌝ }
+    pub fn build(mut self, v: Values, page: Page, address: u16) -> Built
+        ensures { λ r. ⌜ r ≡ buildOf self v page address ⌝ }
     {
-        let out = self.outcome(v, dirty, address);
+        let out = self.outcome(v, page, address);
         self.with(out)
     }
 }
 
 // Builds into the front of a lent buffer: 9 comes last, and leaves the instruction and the buffer as they were.
-pub fn build_into(i: Instruction, v: Values, dirty: bool, address: u16, out: &mut [u8]) -> Placed
-    ensures answer { λ r. ⌜ r ≡ placedOf i (buildOf i v dirty address) (length (now (out .entry))) ⌝ }
-    ensures buffer { λ _. ⌜ now (out .exit) ≡ bufferOf (buildOf i v dirty address) (now (out .entry)) ⌝ }
+pub fn build_into(i: Instruction, v: Values, page: Page, address: u16, out: &mut [u8]) -> Placed
+    ensures answer { λ r. ⌜ r ≡ placedOf i (buildOf i v page address) (length (now (out .entry))) ⌝ }
+    ensures buffer { λ _. ⌜ now (out .exit) ≡ bufferOf (buildOf i v page address) (now (out .entry)) ⌝ }
 {
-    let built = i.build(v, dirty, address);
+    let built = i.build(v, page, address);
     let instruction = built.instruction;
     let bytes = built.bytes;
     let length = built.length;
@@ -378,7 +380,8 @@ pub fn assemble(r: Record, address: u16) -> Built
 {
     let o = r.operand;
     let v = r.values;
-    let i = instruction_of(o, form_for(o, v, r.dirty));
-    let out = i.outcome(v, r.dirty, address);
+    let page = r.page;
+    let i = instruction_of(o, form_for(o, v, page));
+    let out = i.outcome(v, page, address);
     handed(i.with(out))
 }

@@ -9,10 +9,10 @@ use borrow.Author.Tests.{eqb-true, eq-eqb, ne-eqb, ltb-true, ltb-false, leb-true
 use Rattle.ground.proofs.Choices.{by-test}
 use Rattle.values.specs.declared.pages.Page.{Page}
 use Rattle.values.specs.declared.pages.Page.the-variants.{Unknown, Known}
-use Rattle.values.specs.Pages.{onPage, numberOfPage, isPage, pageNumbered, meets}
+use Rattle.values.specs.Pages.{reaches, numberOfPage, isPage, pageNumbered, meets}
 
 -- what was built under a page, a reader whose page meets it reaches too
-pub meets-on : (reader page : Page) → meets reader page ≡ true → (n : ℕ) → onPage page n ≡ true → onPage reader n ≡ true
+pub meets-on : (reader page : Page) → meets reader page ≡ true → (n : ℕ) → reaches page n ≡ true → reaches reader n ≡ true
 meets-on reader Unknown m n h = absurd (false≢true h)
 meets-on Unknown (Known page) m n h = absurd (false≢true m)
 meets-on (Known high) (Known page) m n h = rw (eqb-true high page m) h
@@ -28,7 +28,7 @@ numbered-back n h =
     by-test (λ (p : Page). numberOfPage p ≡ n) (ltb n 256) (λ _. refl) (λ e. omega (arith, leb-true n 256 h, ltb-false n 256 e))
 
 -- "Known 0 answers as clean did": what page 0 reaches is below 256
-pub zero-reaches : (n : ℕ) → onPage (Known 0) n ≡ ltb n 256
+pub zero-reaches : (n : ℕ) → reaches (Known 0) n ≡ ltb n 256
 zero-reaches n = go (ltb n 256) refl
   where
     go : (b : Bool) → ltb n 256 ≡ b → eqb 0 (n / 256) ≡ b

@@ -7,9 +7,9 @@ use Rattle.values.specs.declared.pages.Page.{Page}
 use Rattle.values.specs.declared.pages.Page.the-variants.{Unknown, Known}
 
 -- "An unforced address is Direct when the page is known and equals its high byte."
-abbrev pub onPage : Page → ℕ → Bool
-onPage Unknown n = false
-onPage (Known high) n = eqb high (n / 256)
+abbrev pub reaches : Page → ℕ → Bool
+reaches Unknown n = false
+reaches (Known high) n = eqb high (n / 256)
 
 abbrev pub isUnknown : Page → Bool
 isUnknown Unknown = true

@@ -1,6 +1,6 @@
 // The page of direct addresses: what is known of the register DP.
 ghost use mathlib.Core.Path.{_≡_};
-ghost use Rattle.values.specs.Pages.{onPage, isUnknown, isZero, isPage, pageNumbered};
+ghost use Rattle.values.specs.Pages.{reaches, isUnknown, isZero, isPage, pageNumbered};
 
 // Nothing is known, or the high byte of the addresses that a direct code reaches.
 pub enum Page {
@@ -11,7 +11,7 @@ pub enum Page {
 impl Page {
     // An address that a direct code reaches.
     pub fn reaches(self, address: u16) -> bool
-        ensures { λ r. ⌜ r ≡ onPage self address ⌝ }
+        ensures { λ r. ⌜ r ≡ reaches self address ⌝ }
     {
         match self {
             Page::Unknown => false,

@@ -29,7 +29,7 @@ returns c =
 within : (c : tie.After-build) → c .build .result .length ≤ length (c .build .result .bytes)
 within c =
     let a = c .before .before .args in
-    built-within (a .i) (a .v) (a .dirty) (a .address) (c .build .ensures)
+    built-within (a .i) (a .v) (a .page) (a .address) (c .build .ensures)
 
 array-share-prefix-bytes : tie.Need-array-share-prefix-bytes
 array-share-prefix-bytes c = within (c .before .before .before .before)

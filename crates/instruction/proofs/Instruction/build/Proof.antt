@@ -18,7 +18,7 @@ returns c =
     let a = c .before .before .args in
     c .with .ensures
     ∙ ap (withOutcome (a .self)) (c .before .outcome .ensures)
-    ∙ with-outcome (a .self) (a .v) (a .dirty) (a .address)
+    ∙ with-outcome (a .self) (a .v) (a .page) (a .address)
 
 pub build-spec : {M : Type 1} → statement M
 build-spec = tie.close (tie.spec outcome-requires with-requires returns)

@@ -20,14 +20,14 @@ code-of-requires c κs = search needs
 first-refusal-requires : tie.Need-first-refusal-requires
 first-refusal-requires c κs =
     let a = c .before .before .args in
-    code-tells (a .self) (a .v) (a .dirty) (a .address) _ _ (omega arith) (c .before .choose .ensures) (c .code-of .ensures)
+    code-tells (a .self) (a .v) (a .page) (a .address) _ _ (omega arith) (c .before .choose .ensures) (c .code-of .ensures)
 
 returns : tie.Need-returns
 returns c =
     let a = c .before .before .before .before .args in
     let first = c .before .first-refusal .ensures ∙ ap (firstRefusal (a .self) (a .v)) (c .before .before .before .choose .ensures) in
     ap (λ (n : ℕ). outcomeOf (refusedWith (a .self) n)) first
-    ∙ ap outcomeOf (sym (some-first (a .self) (a .v) (a .dirty) (a .address) (λ z. c .if1 .taken (first ∙ z))))
+    ∙ ap outcomeOf (sym (some-first (a .self) (a .v) (a .page) (a .address) (λ z. c .if1 .taken (first ∙ z))))
 
 lay-requires : tie.Need-lay-requires
 lay-requires c κs = search needs
@@ -43,7 +43,7 @@ returns-2 c =
     let first = told .first-refusal .ensures ∙ ap (firstRefusal (a .self) (a .v)) chosen in
     accepted-outcome (a .self) _ (a .address) (told .before .code-of .ensures) (c .before .before .lay .ensures) (c .dirties .ensures)
     ∙ ap (λ (k : Chosen). outcomeOf (acceptedOf (a .self) k (a .address))) chosen
-    ∙ ap outcomeOf (sym (none-first (a .self) (a .v) (a .dirty) (a .address) (sym first ∙ c .before .before .before .before .if1 .left)))
+    ∙ ap outcomeOf (sym (none-first (a .self) (a .v) (a .page) (a .address) (sym first ∙ c .before .before .before .before .if1 .left)))
 
 pub outcome-spec : {M : Type 1} → statement M
 outcome-spec =

@@ -5,12 +5,12 @@ use Rattle.instruction.specs.Forms.{becomesDirect}
 use Rattle.instruction.proofs.forms.becomes_direct.Statement.{statement}
 use Rattle.instruction.proofs.forms.becomes_direct.Tie as tie
 
-is-on-page-requires : tie.Need-is-on-page-requires
-is-on-page-requires c κs = search needs
+reaches-requires : tie.Need-reaches-requires
+reaches-requires c κs = search needs
 
 returns : tie.Need-returns
 unfolding becomesDirect
-returns c = rw (c .before .is-on-page .ensures)
+returns c = rw (c .before .reaches .ensures)
 
 pub becomes-direct-spec : {M : Type 1} → statement M
-becomes-direct-spec = tie.close (tie.spec is-on-page-requires returns)
+becomes-direct-spec = tie.close (tie.spec reaches-requires returns)
