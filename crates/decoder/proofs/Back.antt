@@ -2,19 +2,22 @@
 -- Stated over the definitions of rows and of postbytes, for those who write such bytes.
 -- Assumes nothing.
 use mathlib.Core.Path.{_≡_, _∙_, refl, sym, ap, subst}
-use mathlib.Core.Bool.{Bool, true, false}
+use mathlib.Core.Bool.{Bool, true, false, false≢true}
 use mathlib.Core.List.{List, [], _∷_, _++_, append-assoc}
 use mathlib.Core.Logic.{⊎-elim}
-use Prim.Native.Nat.{ℕ, zero, suc, _+_, _<_, _≤_}
+use Prim.Native.Nat.{ℕ, zero, suc, _+_, _/_, _<_, _≤_}
 use native.Mathlib.Omega.{arith}
 use native.Mathlib.Nat.{div-add-mod', mod-eq-of-lt}
 use lib.Dec.{eqb}
 use lib.ListN.{length, getD, take, length-append}
-use borrow.Author.Tests.{le-ltb, ne-eqb}
+use borrow.Author.Tests.{le-ltb, ne-eqb, eqb-true}
 use Rattle.ground.specs.Choice.{pick}
 use Rattle.ground.specs.Words.{minus, high, low}
 use Rattle.ground.proofs.Choices.{by-pick}
 use Rattle.values.specs.Widths.{extended}
+use Rattle.values.specs.declared.pages.Page.{Page}
+use Rattle.values.specs.declared.pages.Page.the-variants.{Unknown, Known}
+use Rattle.values.specs.Pages.{onPage}
 use Rattle.rows.specs.declared.Coded.the-variants.{Code}
 use Rattle.rows.specs.Forms as forms
 use Rattle.rows.specs.Lookup.{mergedOf, codeOf}
@@ -32,7 +35,7 @@ use Rattle.decoder.specs.declared.Origin.{Origin}
 use Rattle.decoder.specs.declared.Decoded.{Decoded}
 use Rattle.decoder.specs.declared.Kind.{Kind}
 use Rattle.decoder.specs.declared.Kind.the-variants.{Inherent, Immediate, Memory, Branch, Push, Pair, Counter}
-use Rattle.decoder.specs.Origin.{shifted, outside, targetOf, directOf}
+use Rattle.decoder.specs.Origin.{shifted, outside, targetOf, directOf, unseen}
 use Rattle.decoder.specs.Meaning.{reading, answer, joined}
 use Rattle.decoder.specs.Operands.{restOf, numberOf, distanceOf, numberedOf, resolved, isPair, ownOf, pairedAs, operandOf}
 use Rattle.decoder.specs.Front.{codedOf, frontOf, decodeOf}
@@ -153,25 +156,33 @@ module _ (q : ℕ) (after : Origin) (t : List ℕ) where
   Number form size n kind = operandOf q form size (restOf (numberBytes size n ++ t)) after ≡ reading size kind
 
   pub inherent-back : operandOf q forms.inherent 0 (restOf t) after ≡ reading 0 Inherent
-  unfolding operandOf numberedOf pick
-  inherent-back = numbered-back forms.inherent 0 after (restOf t) (omega arith)
+  unfolding operandOf numberedOf unseen pick
+  inherent-back = numbered-back forms.inherent 0 after refl (restOf t) (omega arith)
 
   pub immediate-back : (size n : ℕ) → 1 ≤ size → size ≤ 2 → (size ≡ 1 → n < 256) → Number forms.immediate size n (Immediate n)
-  unfolding operandOf numberedOf numberOf pick
+  unfolding operandOf numberedOf numberOf unseen pick
   immediate-back size n =
       one-or-two (λ (s : ℕ). (s ≡ 1 → n < 256) → Number forms.immediate s n (Immediate n))
-      (λ h. numbered-back forms.immediate 1 after (restOf (low n ∷ t)) (omega arith) ∙ ap (λ (m : ℕ). reading 1 (Immediate m)) (mod-eq-of-lt (h refl)))
-      (λ h. numbered-back forms.immediate 2 after (restOf (high n ∷ low n ∷ t)) (omega arith) ∙ ap (λ (m : ℕ). reading 2 (Immediate m)) (div-add-mod' n 256))
+      (λ h. numbered-back forms.immediate 1 after refl (restOf (low n ∷ t)) (omega arith) ∙ ap (λ (m : ℕ). reading 1 (Immediate m)) (mod-eq-of-lt (h refl)))
+      (λ h. numbered-back forms.immediate 2 after refl (restOf (high n ∷ low n ∷ t)) (omega arith) ∙ ap (λ (m : ℕ). reading 2 (Immediate m)) (div-add-mod' n 256))
       size
 
-  pub direct-back : (n : ℕ) → n < 256 → Number forms.direct 1 n (Memory n)
-  unfolding operandOf numberedOf numberOf directOf pick
-  direct-back n h = numbered-back forms.direct 1 after (restOf (low n ∷ t)) (omega arith) ∙ ap (λ (m : ℕ). reading 1 (Memory m)) (omega arith)
+  -- the low byte, under a page that the address lies on
+  pub direct-back : (n : ℕ) → onPage (after .page) n ≡ true → Number forms.direct 1 n (Memory n)
+  unfolding operandOf numberedOf numberOf directOf unseen pick
+  direct-back n h = go (after .page) refl h
+    where
+      go : (p : Page) → after .page ≡ p → onPage p n ≡ true → Number forms.direct 1 n (Memory n)
+      go Unknown e h₁ = absurd (false≢true h₁)
+      go (Known high) e h₁ =
+          let d : high ≡ n / 256 = eqb-true high (n / 256) h₁ in
+          numbered-back forms.direct 1 after (rw e) (restOf (low n ∷ t)) (omega arith)
+          ∙ rw e (ap (λ (m : ℕ). reading 1 (Memory m)) (omega arith))
 
   pub extended-back : (n : ℕ) → Number forms.extended 2 n (Memory n)
-  unfolding operandOf numberedOf numberOf pick
+  unfolding operandOf numberedOf numberOf unseen pick
   extended-back n =
-      numbered-back forms.extended 2 after (restOf (high n ∷ low n ∷ t)) (omega arith) ∙ ap (λ (m : ℕ). reading 2 (Memory m)) (div-add-mod' n 256)
+      numbered-back forms.extended 2 after refl (restOf (high n ∷ low n ∷ t)) (omega arith) ∙ ap (λ (m : ℕ). reading 2 (Memory m)) (div-add-mod' n 256)
 
   -- the distance of a branch is counted from the end of the instruction
   abbrev pub distance : ℕ → ℕ → ℕ
@@ -184,19 +195,19 @@ module _ (q : ℕ) (after : Origin) (t : List ℕ) where
       target < 65536 →
       (size ≡ 1 → nearOf (distance target size) ≡ true) →
       Number forms.relative size (distance target size) (Branch target)
-  unfolding operandOf numberedOf numberOf distanceOf targetOf shifted pick
+  unfolding operandOf numberedOf numberOf distanceOf targetOf shifted unseen pick
   relative-back size target =
       one-or-two (λ (s : ℕ). target < 65536 → (s ≡ 1 → nearOf (distance target s) ≡ true) → Number forms.relative s (distance target s) (Branch target))
       (λ h near.
       let d = distance target 1 in
       let e : low (low d) ≡ low d = omega arith in
       let back : extended 8 (low (low d)) ≡ d = rw e (near-back 8 8 128 d refl refl refl (omega arith) (near refl)) in
-      numbered-back forms.relative 1 after (restOf (low d ∷ t)) (omega arith)
+      numbered-back forms.relative 1 after refl (restOf (low d ∷ t)) (omega arith)
       ∙ ap (λ (m : ℕ). reading 1 (Branch (targetOf (shifted after 1) m))) back
       ∙ ap (λ (m : ℕ). reading 1 (Branch m)) (omega arith))
       (λ h near.
       let d = distance target 2 in
-      numbered-back forms.relative 2 after (restOf (high d ∷ low d ∷ t)) (omega arith)
+      numbered-back forms.relative 2 after refl (restOf (high d ∷ low d ∷ t)) (omega arith)
       ∙ ap (λ (m : ℕ). reading 2 (Branch (targetOf (shifted after 2) m))) (div-add-mod' d 256)
       ∙ ap (λ (m : ℕ). reading 2 (Branch m)) (omega arith))
       size

@@ -14,6 +14,7 @@ use Rattle.postbytes.specs.Reading.{isDefined, shapeOf, extraOf}
 use Rattle.decoder.specs.declared.Origin.{Origin}
 use Rattle.decoder.specs.declared.operands.Rest.{Rest}
 use Rattle.decoder.specs.declared.operands.Reading.{Reading}
+use Rattle.decoder.specs.Origin.{unseen}
 use Rattle.decoder.specs.Operands.{numberedAt, indexedAs, indexedAt, isPair, pairedAs, registersAt, operandOf}
 
 pub extra-small : (s : Shape) → extraOf s ≤ 2
@@ -52,7 +53,7 @@ operand-small o form size r after h =
     (by-pick Short (ltb (r .left) (1 + extraOf (shapeOf (r .first)))) (omega arith) (omega arith)) (omega arith)))
     (by-pick Short (eqb form 6)
     (by-pick Short (eqb (r .left) 0) (omega arith) (by-pick Short (isPair o) (paired (pairOf (r .first))) (omega arith)))
-    (by-pick Short (ltb (r .left) size) (omega arith) (omega arith)))
+    (by-pick Short (unseen form after) (omega arith) (by-pick Short (ltb (r .left) size) (omega arith) (omega arith))))
   where
     paired : (p : Pair) → Short (pairedAs p)
     paired (Is s d) = omega arith

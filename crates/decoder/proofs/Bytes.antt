@@ -27,7 +27,7 @@ use Rattle.decoder.specs.declared.Origin.{Origin}
 use Rattle.decoder.specs.declared.operands.Rest.{Rest}
 use Rattle.decoder.specs.declared.operands.Reading.{Reading}
 use Rattle.decoder.specs.declared.Kind.the-variants.{Push}
-use Rattle.decoder.specs.Origin.{shifted}
+use Rattle.decoder.specs.Origin.{shifted, unseen}
 use Rattle.decoder.specs.Meaning.{reading, unread}
 use Rattle.decoder.specs.Operands.{restOf, numberOf, numberedOf, numberedAt, resolved, indexedAs, indexedAt, isPair, ownOf, pairedAs, registersAt, operandOf}
 use Rattle.decoder.proofs.Bounds.{extra-small}
@@ -49,15 +49,15 @@ module _ (n : ℕ) (l t : List ℕ) (h : n ≤ length l) where
   kept-long = omega (arith, length-append (take n l) t, length-take-le n l h)
 
 -- ---- a number
-module _ (form size : ℕ) (after : Origin) where
+module _ (form size : ℕ) (after : Origin) (seen : unseen form after ≡ false) where
   pub numbered-back :
       (r : Rest) → size ≤ r .left → numberedAt form size r after ≡ reading size (numberedOf form size (numberOf size r) after)
   unfolding numberedAt pick
-  numbered-back r h = rw (le-ltb (r .left) size h)
+  numbered-back r h = rw (seen, le-ltb (r .left) size h)
 
   numbered-cut : (r : Rest) → r .left < size → numberedAt form size r after ≡ unread cutShort
   unfolding numberedAt pick
-  numbered-cut r h = rw (lt-ltb (r .left) size h)
+  numbered-cut r h = rw (seen, lt-ltb (r .left) size h)
 
 number-kept :
     (size : ℕ) (l t : List ℕ) → size ≤ length l → numberOf size (restOf (take size l ++ t)) ≡ numberOf size (restOf l)
@@ -90,21 +90,22 @@ module _ (form size : ℕ) (after : Origin) (l : List ℕ) where
   abbrev numbered : List ℕ → Reading
   numbered m = numberedAt form size (restOf m) after
 
-  own-number : size ≤ length l → Own (unread cutShort) numbered l size
-  own-number h = record {
+  own-number : unseen form after ≡ false → size ≤ length l → Own (unread cutShort) numbered l size
+  own-number seen h = record {
     within = h;
-    cut = λ k b. numbered-cut form size after (restOf (take k l)) (omega (arith, length-take-le k l (omega arith)));
+    cut = λ k b. numbered-cut form size after seen (restOf (take k l)) (omega (arith, length-take-le k l (omega arith)));
     kept =
-        λ t. numbered-back form size after (restOf (take size l ++ t)) (kept-long size l t h)
+        λ t. numbered-back form size after seen (restOf (take size l ++ t)) (kept-long size l t h)
         ∙ ap (λ (n : ℕ). reading size (numberedOf form size n after)) (number-kept size l t h)
-        ∙ sym (numbered-back form size after (restOf l) h);
+        ∙ sym (numbered-back form size after seen (restOf l) h);
   }
 
   numbered-own : Owned numbered l
   unfolding numberedAt
   numbered-own =
-      by-test (Sized numbered l) (ltb (length l) size) (λ _ z. absurd (omega arith))
-      (λ q _. own-number (ltb-false (length l) size q))
+      by-test (Sized numbered l) (unseen form after) (λ _ z. absurd (omega arith))
+      (λ u. by-test (Sized numbered l) (ltb (length l) size) (λ _ z. absurd (omega arith))
+      (λ q _. own-number u (ltb-false (length l) size q)))
 
 -- ---- a postbyte
 -- the operand's bytes, whatever follows them, are read as it

@@ -10,6 +10,7 @@ use lib.ListN.{getD}
 use Rattle.ground.specs.Choice.{pick}
 use Rattle.ground.specs.Refusals.{undefined, cutShort, beyond}
 use Rattle.values.specs.Widths.{extended}
+use Rattle.values.specs.declared.pages.Page.the-variants.{Known}
 use Rattle.rows.specs.Sheet.{page0, page10, page11, tableOf}
 use Rattle.rows.specs.Lookup.{rowOf}
 use Rattle.rows.specs.Sizes.{isWide, isLong, numberAt}
@@ -24,7 +25,7 @@ use Rattle.decoder.specs.declared.Decoded.{Decoded}
 use Rattle.decoder.specs.declared.Parts.{Parts}
 use Rattle.decoder.specs.declared.Kind.{Kind}
 use Rattle.decoder.specs.declared.Kind.the-variants.{None, Inherent, Immediate, Memory, Branch, Push, Pair, Offset, Counter, Accumulator, Step, Address}
-use Rattle.decoder.specs.Origin.{origin, shifted, outside, targetOf, directOf}
+use Rattle.decoder.specs.Origin.{origin, shifted, outside, targetOf, directOf, unseen}
 use Rattle.decoder.specs.Meaning.{answer, refuse, joined, partsOf}
 use Rattle.decoder.specs.Operands.{numberOf, distanceOf, numberedOf, numberedAt, resolved, indexedAs, indexedAt, ownOf, registersAt, operandOf}
 use Rattle.decoder.specs.Front.{codedOf, frontOf, decodeOf}
@@ -37,9 +38,9 @@ pub data Question : Type 0 where
   next : List ℕ → ℕ → ℕ → Question
 
 abbrev ask : Question → List Decoded
-ask (front l at) = decodeOf l (origin at) ∷ []
-ask (run l at) = runOf l (origin at)
-ask (next l at n) = nextOf l (origin at) n ∷ []
+ask (front l at) = decodeOf l (origin at (Known 0)) ∷ []
+ask (run l at) = runOf l (origin at (Known 0))
+ask (next l at n) = nextOf l (origin at (Known 0)) n ∷ []
 
 abbrev asked : List Question
 asked =
@@ -112,7 +113,7 @@ answered =
     ∷ []
 
 pub cases : map ask asked ≡ answered
-unfolding decodeOf runOf nextOf runFrom frontOf codedOf joined operandOf indexedAt indexedAs registersAt numberedAt numberedOf numberOf distanceOf ownOf shifted outside targetOf directOf rowOf tableOf page0 page10 page11 isWide isLong numberAt shapeOf highOf directOnly addressOnly registersOf pairOf otherOf sizeOf extended pick
+unfolding decodeOf runOf nextOf runFrom frontOf codedOf joined operandOf indexedAt indexedAs registersAt numberedAt numberedOf numberOf distanceOf ownOf shifted outside targetOf directOf unseen rowOf tableOf page0 page10 page11 isWide isLong numberAt shapeOf highOf directOnly addressOnly registersOf pairOf otherOf sizeOf extended pick
 cases = refl
 
 -- ---- a kind from its number and values

@@ -26,7 +26,7 @@ use Rattle.decoder.specs.declared.Origin.{Origin}
 use Rattle.decoder.specs.declared.Decoded.{Decoded}
 use Rattle.decoder.specs.declared.operands.Reading.{Reading}
 use Rattle.decoder.specs.declared.operands.Rest.{Rest}
-use Rattle.decoder.specs.Origin.{shifted}
+use Rattle.decoder.specs.Origin.{shifted, unseen}
 use Rattle.decoder.specs.Meaning.{unread, refuse, joined}
 use Rattle.decoder.specs.Operands.{restOf, numberedAt, indexedAs, indexedAt, isPair, registersAt, operandOf}
 use Rattle.decoder.specs.Front.{isPrefix, namedOf, codedOf, prefixedOf, frontOf}
@@ -49,14 +49,15 @@ Operand = Judged (unread cutShort) (unread undefined) Read
 module _ (form size : ℕ) (after : Origin) (small : size ≤ 2) (l : List ℕ) where
   judge-number : Operand (λ m. numberedAt form size (restOf m) after) l
   unfolding numberedAt pick
-  judge-number = go (ltb (length l) size) refl
+  judge-number = go (unseen form after) refl (ltb (length l) size) refl
     where
-      go : (b : Bool) → ltb (length l) size ≡ b → Operand (λ m. numberedAt form size (restOf m) after) l
-      go true q =
-          unfinished (rw q) (0 ∷ 0 ∷ [])
+      go : (a : Bool) → unseen form after ≡ a → (b : Bool) → ltb (length l) size ≡ b → Operand (λ m. numberedAt form size (restOf m) after) l
+      go true u b q = hopeless (λ t. rw u)
+      go false u true q =
+          unfinished (rw (u, q)) (0 ∷ 0 ∷ [])
           (ap (λ (r : Reading). r .refusal)
-          (numbered-back form size after (restOf (l ++ 0 ∷ 0 ∷ [])) (omega (arith, length-append l (0 ∷ 0 ∷ [])))))
-      go false q = accepted (rw q)
+          (numbered-back form size after u (restOf (l ++ 0 ∷ 0 ∷ [])) (omega (arith, length-append l (0 ∷ 0 ∷ [])))))
+      go false u false q = accepted (rw (u, q))
 
 -- ---- a postbyte
 module _ (after : Origin) where
@@ -153,7 +154,7 @@ judge-after read a l (unfinished e t g) = unfinished e t g
 
 -- 3F completes each prefix: SWI2 and SWI3
 swi : (a : ℕ) (from : Origin) → isPrefix a ≡ true → prefixedOf a (0x3F ∷ []) from .refusal ≡ 0
-unfolding codedOf rowOf tableOf page10 page11 joined operandOf numberedAt numberAt pick
+unfolding codedOf rowOf tableOf page10 page11 joined operandOf numberedAt numberAt unseen pick
 swi a from i = go (eqb a 0x10) refl (eqb a 0x11) refl
   where
     go : (b : Bool) → eqb a 0x10 ≡ b → (d : Bool) → eqb a 0x11 ≡ d → prefixedOf a (0x3F ∷ []) from .refusal ≡ 0
@@ -166,7 +167,7 @@ judge-prefixed a from [] i = unfinished refl (0x3F ∷ []) (swi a from i)
 judge-prefixed a from (c ∷ l) i = judge-after (λ m. prefixedOf a m from) c l (judge-coded a c 2 from l)
 
 nop : (from : Origin) → frontOf (0x12 ∷ []) from .refusal ≡ 0
-unfolding frontOf codedOf rowOf tableOf page0 joined operandOf numberedAt numberAt pick
+unfolding frontOf codedOf rowOf tableOf page0 joined operandOf numberedAt numberAt unseen pick
 nop from = refl
 
 judge-front : (l : List ℕ) (from : Origin) → Instruction (λ m. frontOf m from) l

@@ -27,7 +27,7 @@ use Rattle.decoder.specs.declared.Meaning.{Meaning}
 use Rattle.decoder.specs.declared.Decoded.{Decoded}
 use Rattle.decoder.specs.declared.operands.Rest.{Rest}
 use Rattle.decoder.specs.declared.operands.Reading.{Reading}
-use Rattle.decoder.specs.Origin.{shifted, outside}
+use Rattle.decoder.specs.Origin.{shifted, outside, unseen}
 use Rattle.decoder.specs.Meaning.{joined, partsOf}
 use Rattle.decoder.specs.Operands.{restOf, numberedOf, numberedAt, resolved, indexedAs, indexedAt, isPair, pairedAs, registersAt, operandOf}
 use Rattle.decoder.specs.Front.{isPrefix, namedOf, codedOf, prefixedOf, frontOf, decodeOf}
@@ -75,7 +75,8 @@ operand-some o form size r after =
     (by-pick Kinded (eqb form forms.register)
     (by-pick Kinded (eqb (r .left) 0) (λ z. absurd (omega arith))
     (by-pick Kinded (isPair o) (pair-some (pairOf (r .first))) (λ _. omega arith)))
-    (by-pick Kinded (ltb (r .left) size) (λ z. absurd (omega arith)) (λ _. number-some form size _ after)))
+    (by-pick Kinded (unseen form after) (λ z. absurd (omega arith))
+    (by-pick Kinded (ltb (r .left) size) (λ z. absurd (omega arith)) (λ _. number-some form size _ after))))
 
 -- ---- an instruction
 pub record Meant (m : Meaning) : Type 0 where

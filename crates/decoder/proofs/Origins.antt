@@ -12,11 +12,11 @@ use Rattle.decoder.specs.Origin.{origin, shifted, outside}
 
 pub shift-zero : (from : Origin) → from .address < 65536 → shifted from 0 ≡ from
 unfolding shifted
-shift-zero from h = ap origin (omega arith)
+shift-zero from h = ap (λ (a : ℕ). origin a (from .page)) (omega arith)
 
 pub shift-shift : (from : Origin) (a b : ℕ) → shifted (shifted from a) b ≡ shifted from (a + b)
 unfolding shifted
-shift-shift from a b = ap origin (omega arith)
+shift-shift from a b = ap (λ (n : ℕ). origin n (from .page)) (omega arith)
 
 pub inside : (l : List ℕ) (from : Origin) → outside l from ≡ false → from .address + length l ≤ 65536
 unfolding outside

@@ -6,7 +6,7 @@ use mathlib.Core.List.{List}
 use lib.Dec.{eqb, ltb, leb}
 use lib.ListN.{length, getD}
 use Rattle.ground.specs.Choice.{pick}
-use Rattle.ground.specs.Refusals.{cutShort}
+use Rattle.ground.specs.Refusals.{undefined, cutShort}
 use Rattle.ground.specs.Words.{low, word}
 use Rattle.values.specs.Widths.{extended}
 use Rattle.rows.specs.Forms as forms
@@ -23,7 +23,7 @@ use Rattle.decoder.specs.declared.operands.Rest.{Rest}
 use Rattle.decoder.specs.declared.operands.Reading.{Reading}
 use Rattle.decoder.specs.declared.Kind.{Kind}
 use Rattle.decoder.specs.declared.Kind.the-variants.{None, Inherent, Immediate, Memory, Branch, Push, Pair, Offset, Counter, Accumulator, Step, Address}
-use Rattle.decoder.specs.Origin.{shifted, targetOf, directOf}
+use Rattle.decoder.specs.Origin.{shifted, targetOf, directOf, unseen}
 use Rattle.decoder.specs.Meaning.{reading, unread}
 
 -- some bytes: how many there are, and the first three
@@ -42,15 +42,16 @@ distanceOf size n = pick (eqb size 1) (extended 8 (low n)) n
 unfoldable pub numberedOf : (form size n : ℕ) → Origin → Kind
 numberedOf form size n after =
     pick (eqb form forms.immediate) (Immediate n)
-    (pick (eqb form forms.direct) (Memory (directOf n))
+    (pick (eqb form forms.direct) (Memory (directOf after n))
     (pick (eqb form forms.extended) (Memory n)
     (pick (eqb form forms.relative) (Branch (targetOf (shifted after size) (distanceOf size n)))
     Inherent)))
 
--- the operand that is a number of so many bytes, after the code
+-- the operand that is a number of so many bytes, after the code; what is unseen is so before its bytes are there
 unfoldable pub numberedAt : (form size : ℕ) → Rest → Origin → Reading
 numberedAt form size r after =
-    pick (ltb (r .left) size) (unread cutShort) (reading size (numberedOf form size (numberOf size r) after))
+    pick (unseen form after) (unread undefined)
+    (pick (ltb (r .left) size) (unread cutShort) (reading size (numberedOf form size (numberOf size r) after)))
 
 -- what a postbyte means: "offset from PC and PCRelative are one kind; every PC form .. has its target"
 abbrev pub resolved : Addressing → Origin → Kind

@@ -112,8 +112,10 @@ fn join(size: u8, operation: u8, reading: Reading) -> Decoded
 pub fn shift(from: Origin, by: u16) -> Origin
     ensures { λ r. ⌜ r ≡ shifted from by ⌝ }
 {
+    let page = from.page;
     Origin {
         address: add(from.address, by),
+        page,
     }
 }
 

@@ -7,6 +7,7 @@ use front::refused;
 use front::shift;
 use ground::refusals::BEYOND;
 use ground::refusals::CUT_SHORT;
+use values::pages::Page;
 ghost use mathlib.Core.Path.{_≡_};
 ghost use Rattle.decoder.specs.Origin.{origin, outside};
 ghost use Rattle.decoder.specs.Meaning.{parts, partsOf};
@@ -93,9 +94,10 @@ pub struct Parts {
     pub number: u16,
 }
 
-// What the reading of bytes hangs on beside them: the address at which they stand.
+// What the reading of bytes hangs on beside them: the address at which they stand, and the page of direct addresses.
 pub struct Origin {
     pub address: u16,
+    pub page: Page,
 }
 
 // A kind's number, and its values.
@@ -158,40 +160,43 @@ impl Kind {
 }
 
 // Some byte would lie beyond 65535.
-fn is_outside(bytes: &[u8], address: u16) -> bool
-    ensures { λ r. ⌜ r ≡ outside (now (bytes .entry)) (origin address) ⌝ }
+fn is_outside(bytes: &[u8], from: Origin) -> bool
+    ensures { λ r. ⌜ r ≡ outside (now (bytes .entry)) from ⌝ }
 {
-    65536 - (address as usize) < bytes.len()
+    65536 - (from.address as usize) < bytes.len()
 }
 
 // The instruction at the front of bytes that stand from an address on.
-pub fn decode(bytes: &[u8], address: u16) -> Decoded
-    ensures { λ r. ⌜ r ≡ decodeOf (now (bytes .entry)) (origin address) ⌝ }
+pub fn decode(bytes: &[u8], address: u16, page: Page) -> Decoded
+    ensures { λ r. ⌜ r ≡ decodeOf (now (bytes .entry)) (origin address page) ⌝ }
 {
-    if is_outside(bytes, address) {
+    let from = Origin { address, page };
+    if is_outside(bytes, from) {
         return refused(BEYOND);
     }
-    front(bytes, 0, Origin { address })
+    front(bytes, 0, from)
 }
 
 // The instruction that begins at a place of a run, whose first byte stands at the address.
-pub fn next_of_run(bytes: &[u8], address: u16, at: usize) -> Decoded
-    ensures { λ r. ⌜ r ≡ nextOf (now (bytes .entry)) (origin address) at ⌝ }
+pub fn next_of_run(bytes: &[u8], address: u16, page: Page, at: usize) -> Decoded
+    ensures { λ r. ⌜ r ≡ nextOf (now (bytes .entry)) (origin address page) at ⌝ }
 {
-    if is_outside(bytes, address) {
+    let from = Origin { address, page };
+    if is_outside(bytes, from) {
         return refused(BEYOND);
     }
     if bytes.len() <= at {
         return refused(CUT_SHORT);
     }
-    front(bytes, at, shift(Origin { address }, at as u16))
+    front(bytes, at, shift(from, at as u16))
 }
 
 // How many instructions a run has, from its first byte to its last.
-pub fn count_run(bytes: &[u8], address: u16) -> Counted
-    ensures { λ r. ⌜ r ≡ countedOf (runOf (now (bytes .entry)) (origin address)) ⌝ }
+pub fn count_run(bytes: &[u8], address: u16, page: Page) -> Counted
+    ensures { λ r. ⌜ r ≡ countedOf (runOf (now (bytes .entry)) (origin address page)) ⌝ }
 {
-    if is_outside(bytes, address) {
+    let from = Origin { address, page };
+    if is_outside(bytes, from) {
         return Counted {
             refusal: BEYOND,
             count: 0,
@@ -200,7 +205,7 @@ pub fn count_run(bytes: &[u8], address: u16) -> Counted
     let mut at: usize = 0;
     let mut count: usize = 0;
     while at < bytes.len() {
-        let read = front(bytes, at, shift(Origin { address }, at as u16));
+        let read = front(bytes, at, shift(from, at as u16));
         if read.refusal != 0 {
             return Counted {
                 refusal: read.refusal,

@@ -16,10 +16,11 @@ use postbytes::shapes::fill;
 use postbytes::shapes::shape_of;
 use rows::forms::*;
 use values::Value;
+use values::pages::Page;
 ghost use mathlib.Core.Path.{_≡_};
 ghost use Rattle.postbytes.specs.Reading.{isDefined};
 ghost use Rattle.postbytes.specs.ListsRead.{pairOf};
-ghost use Rattle.decoder.specs.Origin.{shifted, targetOf, directOf};
+ghost use Rattle.decoder.specs.Origin.{shifted, targetOf, directOf, unseen};
 ghost use Rattle.decoder.specs.Meaning.{reading, unread};
 ghost use Rattle.decoder.specs.Operands.{numberOf, distanceOf, numberedOf, numberedAt, resolved, indexedAt, ownOf, pairedAs, registersAt, operandOf};
 
@@ -72,11 +73,23 @@ fn target(after: Origin, size: u8, offset: u16) -> u16
     add(add(after.address, size as u16), offset)
 }
 
-// The address of a direct operand.
-fn direct(n: u16) -> u16
-    ensures { λ r. ⌜ r ≡ directOf n ⌝ }
+// The address of a direct operand; under an unknown page none is read.
+fn direct(after: Origin, n: u16) -> u16
+    ensures { λ r. ⌜ r ≡ directOf after n ⌝ }
 {
-    n
+    let page = after.page;
+    match page {
+        Page::Unknown => n,
+        Page::Known(high) => (high as u16) * 256 + n % 256,
+    }
+}
+
+// A direct code under an unknown page.
+fn is_unseen(form: u8, after: Origin) -> bool
+    ensures { λ r. ⌜ r ≡ unseen form after ⌝ }
+{
+    let page = after.page;
+    (form == DIRECT) & page.is_unknown()
 }
 
 // The number in the first bytes: none, one or two of them.
@@ -108,7 +121,9 @@ fn numbered(form: u8, size: u8, n: u16, after: Origin) -> Kind
 {
     match form {
         IMMEDIATE => Kind::Immediate { number: n },
-        DIRECT => Kind::Memory { address: direct(n) },
+        DIRECT => Kind::Memory {
+            address: direct(after, n),
+        },
         EXTENDED => Kind::Memory { address: n },
         RELATIVE => Kind::Branch {
             target: target(after, size, distance(size, n)),
@@ -121,6 +136,9 @@ fn numbered(form: u8, size: u8, n: u16, after: Origin) -> Kind
 fn numbered_at(form: u8, size: u8, rest: Rest, after: Origin) -> Reading
     ensures { λ r. ⌜ r ≡ numberedAt form size rest after ⌝ }
 {
+    if is_unseen(form, after) {
+        return refused(UNDEFINED);
+    }
     if rest.left < size as usize {
         return refused(CUT_SHORT);
     }

@@ -26,11 +26,11 @@ read-at :
 read-at l from at d o s f = ap (frontOf (drop at l)) (sym s) ∙ sym f
 
 abbrev Inv-loop : tie.InvT-loop
-Inv-loop bytes address at₀ count₀ at count =
-    (count ≤ at) × Counting (runFrom 0 bytes (origin address)) (runAt bytes (origin address) at) count
+Inv-loop bytes address from at₀ count₀ at count =
+    (count ≤ at) × Counting (runFrom 0 bytes from) (runAt bytes from at) count
 
 abbrev μ-loop : tie.MeasureT-loop
-μ-loop bytes address at₀ count₀ at count = length bytes - at
+μ-loop bytes address from at₀ count₀ at count = length bytes - at
 
 is-outside-requires : tie.Need-is-outside-requires Inv-loop μ-loop
 is-outside-requires c κs = search needs
@@ -41,11 +41,12 @@ returns c = rw (← c .before .is-outside .ensures, c .if1 .taken)
 
 loop-holds : tie.Need-loop-holds Inv-loop μ-loop
 loop-holds c = let a = c .before .before .before .args in
-    (omega arith, rw (shift-zero (origin (a .address)) (omega arith)) (count-first (runFrom 0 (a .bytes .now) (origin (a .address)))))
+    let from = origin (a .address) (a .page) in
+    (omega arith, rw (shift-zero from (omega arith)) (count-first (runFrom 0 (a .bytes .now) from)))
 
 cast-shift : tie.Need-cast-shift Inv-loop μ-loop
 cast-shift c = let a = c .before .before .before .before .before .args in
-    omega (arith, inside (a .bytes .now) (origin (a .address)) (sym (c .before .before .before .is-outside .ensures) ∙ c .before .before .if1 .left))
+    omega (arith, inside (a .bytes .now) (origin (a .address) (a .page)) (sym (c .before .before .before .is-outside .ensures) ∙ c .before .before .if1 .left))
 
 shift-requires : tie.Need-shift-requires Inv-loop μ-loop
 shift-requires c κs = search needs
@@ -55,8 +56,9 @@ front-requires c κs = search needs
 
 returns-2 : tie.Need-returns-2 Inv-loop μ-loop
 unfolding runOf pick
-returns-2 c = let l = c .before .before .before .before .before .before .before .before .before .args .bytes .now in
-    let from = origin (c .before .before .before .before .before .before .before .before .before .args .address) in
+returns-2 c = let a = c .before .before .before .before .before .before .before .before .before .args in
+    let l = a .bytes .now in
+    let from = origin (a .address) (a .page) in
     let at = c .before .before .before .before .before .loop .at in
     let d = c .before .before .front .result in
     let e = read-at l from at d (c .before .before .before .shift .result) (c .before .before .before .shift .ensures) (c .before .before .front .ensures) in
@@ -74,8 +76,9 @@ add-count : tie.Need-add-count Inv-loop μ-loop
 add-count c = search needs
 
 loop-less : tie.Need-loop-less Inv-loop μ-loop
-loop-less c = let l = c .before .before .before .before .before .before .before .before .before .before .args .bytes .now in
-    let from = origin (c .before .before .before .before .before .before .before .before .before .before .args .address) in
+loop-less c = let a = c .before .before .before .before .before .before .before .before .before .before .args in
+    let l = a .bytes .now in
+    let from = origin (a .address) (a .page) in
     let at = c .before .before .before .before .before .before .loop .at in
     let d = c .before .before .before .front .result in
     let e = read-at l from at d (c .before .before .before .before .shift .result) (c .before .before .before .before .shift .ensures) (c .before .before .before .front .ensures) in
@@ -83,8 +86,9 @@ loop-less c = let l = c .before .before .before .before .before .before .before 
     omega (arith, c .before .before .before .before .before .loop-test .taken)
 
 loop-again : tie.Need-loop-again Inv-loop μ-loop
-loop-again c = let l = c .before .before .before .before .before .before .before .before .before .before .args .bytes .now in
-    let from = origin (c .before .before .before .before .before .before .before .before .before .before .args .address) in
+loop-again c = let a = c .before .before .before .before .before .before .before .before .before .before .args in
+    let l = a .bytes .now in
+    let from = origin (a .address) (a .page) in
     let at = c .before .before .before .before .before .before .loop .at in
     let d = c .before .before .before .front .result in
     let e = read-at l from at d (c .before .before .before .before .shift .result) (c .before .before .before .before .shift .ensures) (c .before .before .before .front .ensures) in
@@ -96,8 +100,9 @@ loop-again c = let l = c .before .before .before .before .before .before .before
 
 returns-3 : tie.Need-returns-3 Inv-loop μ-loop
 unfolding runOf pick
-returns-3 c = let l = c .before .before .before .before .before .args .bytes .now in
-    let from = origin (c .before .before .before .before .before .args .address) in
+returns-3 c = let a = c .before .before .before .before .before .args in
+    let l = a .bytes .now in
+    let from = origin (a .address) (a .page) in
     rw (← c .before .before .before .is-outside .ensures, c .before .before .if1 .left)
     (sym (count-end (runFrom 0 l from) (c .before .loop .count) (rw (next-none l from (c .before .loop .at) (c .loop-test .left)) at (c .before .loop .inv .1))))
 

@@ -20,12 +20,15 @@ same-test a n h = go (ltb (65536 - a) n) refl
     go true q = sym (lt-ltb 65536 (a + n) (omega (arith, ltb-true (65536 - a) n q)))
     go false q = sym (le-ltb 65536 (a + n) (omega (arith, ltb-false (65536 - a) n q)))
 
+cast-result : tie.Need-cast-result
+cast-result c = search needs
+
 sub-result : tie.Need-sub-result
 sub-result c = search needs
 
 returns : tie.Need-returns
 unfolding outside
-returns c = same-test (c .args .address) (length (c .args .bytes .now)) (omega arith)
+returns c = same-test (c .before .args .from .address) (length (c .before .args .bytes .now)) (omega arith)
 
 pub is-outside-spec : {M : Type 1} → statement M
-is-outside-spec = tie.close (tie.spec sub-result returns)
+is-outside-spec = tie.close (tie.spec cast-result sub-result returns)

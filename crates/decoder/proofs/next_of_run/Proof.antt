@@ -36,7 +36,7 @@ returns-2 c = rw (
 
 cast-shift : tie.Need-cast-shift
 cast-shift c = let a = c .before .before .before .before .args in
-    omega (arith, inside (a .bytes .now) (origin (a .address)) (sym (c .before .before .is-outside .ensures) ∙ c .before .if1 .left))
+    omega (arith, inside (a .bytes .now) (origin (a .address) (a .page)) (sym (c .before .before .is-outside .ensures) ∙ c .before .if1 .left))
 
 shift-requires : tie.Need-shift-requires
 shift-requires c κs = search needs
