@@ -17,7 +17,7 @@ use Rattle.ground.proofs.Choices.{by-pick}
 use Rattle.values.specs.Widths.{extended}
 use Rattle.values.specs.declared.pages.Page.{Page}
 use Rattle.values.specs.declared.pages.Page.the-variants.{Unknown, Known}
-use Rattle.values.specs.Pages.{onPage}
+use Rattle.values.specs.Pages.{reaches}
 use Rattle.rows.specs.declared.Coded.the-variants.{Code}
 use Rattle.rows.specs.Forms as forms
 use Rattle.rows.specs.Lookup.{mergedOf, codeOf}
@@ -168,11 +168,11 @@ module _ (q : ℕ) (after : Origin) (t : List ℕ) where
       size
 
   -- the low byte, under a page that the address lies on
-  pub direct-back : (n : ℕ) → onPage (after .page) n ≡ true → Number forms.direct 1 n (Memory n)
+  pub direct-back : (n : ℕ) → reaches (after .page) n ≡ true → Number forms.direct 1 n (Memory n)
   unfolding operandOf numberedOf numberOf directOf unseen pick
   direct-back n h = go (after .page) refl h
     where
-      go : (p : Page) → after .page ≡ p → onPage p n ≡ true → Number forms.direct 1 n (Memory n)
+      go : (p : Page) → after .page ≡ p → reaches p n ≡ true → Number forms.direct 1 n (Memory n)
       go Unknown e h₁ = absurd (false≢true h₁)
       go (Known high) e h₁ =
           let d : high ≡ n / 256 = eqb-true high (n / 256) h₁ in
