@@ -1,7 +1,7 @@
--- 01's section "Cases, all proved", of the definitions, under a single statement; then further cases of this crate, under another.
+-- 01's section "Cases, all proved", of the definitions, under a single statement; then further cases of this crate, and those of 02 e, each under another.
 -- Assumes nothing.
 use mathlib.Core.Path.{_≡_, refl}
-use mathlib.Core.Bool.{Bool, true, false}
+use mathlib.Core.Bool.{true, false}
 use mathlib.Core.List.{List, [], _∷_, map}
 use Prim.Native.Nat.{ℕ}
 use lib.Dec.{eqb}
@@ -235,3 +235,47 @@ pub further :
     []
 unfolding pick bitsOf validOf tableOf page0 page10 page11 mergedOf placed hasFormOf knownOf codeOf isWide isLong numberAt numberSizeOf longFrom longOf anyUnknown strangeList among sizeOf pushOf pairedOf written.codeOf stepped recognised narrower agreeing lawful sound becomesDirect extendedForm registerForm formOf strays lacks needsValue immediateOf forcedWide leavesDirect staysDirect directlyOf anewAs anewOf addressOf longBranch branchOf isPair ownStack listedOf registersOf chooseOf numberBytes operandBytes codeSize behindCode laidAt laidOf instructionOf madeAs makeOf earlyOf dirtiesOf acceptedOf finishedOf buildOf handed freshFrom freshOf
 further = refl
+
+-- 02 e. `LDA $2005` under page 20, under 0 and under unknown; `LDA $05` under 20; `LDA >$2005` forced Extended under 20
+-- `LDA <$05` under 20; `<$2005` under 20 and under 0; forced `<$05` of 16 bits under 0, under 20 and under unknown; `LDA <$FF` under 0 and under unknown
+-- far, near, far by the page: Extended under 20, Direct with 2010, Extended again; EXG DP,A leaves the page unknown, TFR DP,A does not
+pub paged :
+    map ask
+    (fresh (Known 0x20) (operand lda modeExtended 0 0 0) (address16 0x2005) ∷
+    fresh (Known 0) (operand lda modeExtended 0 0 0) (address16 0x2005) ∷
+    fresh Unknown (operand lda modeExtended 0 0 0) (address16 0x2005) ∷
+    fresh (Known 0x20) (operand lda modeExtended 0 0 0) (valued 8 0x05 8 0x05) ∷
+    fresh (Known 0x20) (forced (operand lda modeExtended 0 0 0)) (address16 0x2005) ∷
+    fresh (Known 0x20) (forced (operand lda modeDirect 0 0 0)) (valued 8 0x05 8 0x05) ∷
+    fresh (Known 0x20) (forced (operand lda modeDirect 0 0 0)) (address16 0x2005) ∷
+    fresh (Known 0) (forced (operand lda modeDirect 0 0 0)) (address16 0x2005) ∷
+    fresh (Known 0) (forced (operand lda modeDirect 0 0 0)) (address16 0x0005) ∷
+    fresh (Known 0x20) (forced (operand lda modeDirect 0 0 0)) (address16 0x0005) ∷
+    fresh Unknown (forced (operand lda modeDirect 0 0 0)) (address16 0x0005) ∷
+    fresh (Known 0) (operand lda modeDirect 0 0 0) (valued 8 0xFF 16 0xFF) ∷
+    fresh Unknown (operand lda modeDirect 0 0 0) (valued 8 0xFF 16 0xFF) ∷
+    again (Known 0x20) (operand lda modeExtended 0 0 0) (address16 0x1000) (address16 0x2010 ∷ address16 0x1000 ∷ []) ∷
+    again (Known 0x20) (operand lda modeExtended 0 0 0) (address16 0x1000) (address16 0x2010 ∷ []) ∷
+    fresh (Known 0x20) (operand 136 modeRegister 2 DP A) missing ∷
+    fresh (Known 0x20) (operand 137 modeRegister 2 DP A) missing ∷
+    [])
+    ≡ bytes (0x96 ∷ 0x05 ∷ []) ∷
+    bytes (0xB6 ∷ 0x20 ∷ 0x05 ∷ []) ∷
+    bytes (0xB6 ∷ 0x20 ∷ 0x05 ∷ []) ∷
+    bytes (0xB6 ∷ 0x00 ∷ 0x05 ∷ []) ∷
+    bytes (0xB6 ∷ 0x20 ∷ 0x05 ∷ []) ∷
+    refused 7 ∷
+    bytes (0x96 ∷ 0x05 ∷ []) ∷
+    refused 7 ∷
+    refused 6 ∷
+    refused 7 ∷
+    refused 7 ∷
+    bytes (0x96 ∷ 0xFF ∷ []) ∷
+    refused 7 ∷
+    bytes (0xB6 ∷ 0x10 ∷ 0x00 ∷ []) ∷
+    bytes (0x96 ∷ 0x10 ∷ []) ∷
+    forgetting (0x1E ∷ 0xB8 ∷ []) ∷
+    bytes (0x1F ∷ 0xB8 ∷ []) ∷
+    []
+unfolding pick bitsOf validOf tableOf page0 page10 page11 mergedOf placed hasFormOf knownOf codeOf isWide isLong numberAt numberSizeOf longFrom longOf anyUnknown strangeList among sizeOf pushOf pairedOf written.codeOf stepped recognised narrower agreeing lawful sound becomesDirect extendedForm registerForm formOf strays lacks needsValue immediateOf forcedWide leavesDirect staysDirect directlyOf anewAs anewOf addressOf longBranch branchOf isPair ownStack listedOf registersOf chooseOf numberBytes operandBytes codeSize behindCode laidAt laidOf instructionOf madeAs makeOf earlyOf dirtiesOf acceptedOf finishedOf buildOf handed freshFrom freshOf
+paged = refl

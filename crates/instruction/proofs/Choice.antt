@@ -133,7 +133,9 @@ module _ (i : Instruction) (v : Values) (page : Page) (P : Chosen → Type 0)
     (some :
     (form : ℕ) (trial : Bool) → isMemory form ≡ true →
     P (record { refusal = 0; operation = i .operand .operation; form = form; trial = trial; widened = i .widened; argument = Number (v .unsigned .number) }))
-    (six : P (refuse badWidth))
+    (six :
+    eqb (i .operand .mode) modeDirect ≡ true → eqb (i .form) direct ≡ true → reaches page (v .unsigned .number) ≡ true → forcedWide i v page ≡ true →
+    P (refuse badWidth))
     (seven :
     eqb (i .operand .mode) modeDirect ≡ true → eqb (i .form) direct ≡ true → reaches page (v .unsigned .number) ≡ false → i .trial ≡ false →
     P (refuse directNotAllowed)) where
@@ -144,7 +146,7 @@ module _ (i : Instruction) (v : Values) (page : Page) (P : Chosen → Type 0)
       (λ m. by-pick P (becomesDirect (i .operand) v page) (some direct (i .trial) refl)
       (by-test P (eqb (i .form) direct)
       (λ f. by-test P (reaches page (v .unsigned .number))
-      (λ _. by-pick P (forcedWide i v page) six (some direct (i .trial) refl))
+      (λ b. by-test P (forcedWide i v page) (six m f b) (λ _. some direct (i .trial) refl))
       (λ b. by-test P (i .trial) (λ _. some extended false refl) (seven m f b)))
       (λ _. some extended (i .trial) refl)))
       (λ _. some _ _ (by-pick (λ (f : ℕ). isMemory f ≡ true) (becomesDirect (i .operand) v page) refl refl))

@@ -15,4 +15,7 @@ pub mod Kept
 pub mod AsFresh
 pub mod Long
 pub mod Seven
+pub mod Six
+pub mod Was
+pub mod AsBefore
 pub mod Quick

@@ -56,7 +56,7 @@ stays-long i p w =
     (λ e. let left = early-leaves i v (eqb-true (earlyOf i v) 0 e) in
     by-test P (eqb (c .refusal) 0)
     (λ z. choice i v (p .page) (p .address) Q (λ n t y. absurd (omega arith)) (λ _ _ _ _. w) (λ _ _ _ _. refl)
-    (λ _. address-choice i v (p .page) Q (λ _ _ _ _. w) (λ y. absurd (omega arith)) (λ _ _ _ _ y. absurd (omega arith)))
+    (λ _. address-choice i v (p .page) Q (λ _ _ _ _. w) (λ _ _ _ _ y. absurd (omega arith)) (λ _ _ _ _ y. absurd (omega arith)))
     (not-strange (i .operand) (left .known)) (left .small) (eqb-true (c .refusal) 0 z))
     (λ _. w))
     (λ _. w)

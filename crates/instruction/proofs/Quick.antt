@@ -68,7 +68,7 @@ chosen-row i v page address small =
     choice i v page address P (λ n t z. absurd (omega arith))
     (λ form _ q _ h. ap (hasFormOf o) (eqb-true (i .form) form q) ∙ h)
     (λ q _ _ _ h. ap (hasFormOf o) (eqb-true (i .form) relative q) ∙ long-row o small h)
-    (λ m. address-choice i v page P (λ form _ n _ h. memory-row o (i .form) m ∙ sym (memory-row o form n) ∙ h) (λ z. absurd (omega arith)) (λ _ _ _ _ z. absurd (omega arith)))
+    (λ m. address-choice i v page P (λ form _ n _ h. memory-row o (i .form) m ∙ sym (memory-row o form n) ∙ h) (λ _ _ _ _ z. absurd (omega arith)) (λ _ _ _ _ z. absurd (omega arith)))
 
 -- ---- what fits
 lawful-valued : (i : Instruction) (v : Values) → valued i v ≡ true → lawful v ≡ true

@@ -40,7 +40,7 @@ module _ (i : Instruction) (v : Values) (fine : sound i v ≡ true) (has : lacks
   choose-late page address =
       let P : Chosen → Type 0 = λ c. Late (c .refusal) in
       choice i v page address P (λ n t. inr (omega arith)) (λ _ _ _. inl refl) (λ _ _ _. inl refl)
-      (λ _. address-choice i v page P (λ _ _ _. inl refl) (inr (omega arith)) (λ _ _ _ _. inr (omega arith)))
+      (λ _. address-choice i v page P (λ _ _ _. inl refl) (λ _ _ _ _. inr (omega arith)) (λ _ _ _ _. inr (omega arith)))
       (not-strange (i .operand) (both-first (recognised (i .operand)) (ltb (i .form) 7 && lawful v) fine)) (lacking-none (i .operand) (i .form) has)
 
   early-late : Late (earlyOf i v)

@@ -1,11 +1,11 @@
--- Refusal 7 is parser mode Direct's alone: Direct, not on trial, under a page or with a number that it does not reach, once 1 to 3 passed; and there it comes.
+-- Refusal 7 is parser mode Direct's alone: Direct, not on trial, under a page that does not reach the number, once 1 to 3 passed; and there it comes.
 -- Assumes nothing.
 use mathlib.Core.Path.{_≡_}
-use mathlib.Core.Bool.{Bool, true, false, not, _&&_, _||_}
+use mathlib.Core.Bool.{false, not, _&&_}
 use Prim.Native.Nat.{ℕ, _≤_}
 use native.Mathlib.Omega.{arith}
-use lib.Dec.{eqb, ltb}
-use borrow.Author.Tests.{eqb-true, le-ltb, ltb-true}
+use lib.Dec.{eqb}
+use borrow.Author.Tests.{eqb-true}
 use Rattle.ground.specs.Choice.{pick}
 use Rattle.ground.specs.Refusals.{valueMissing, directNotAllowed}
 use Rattle.ground.proofs.Choices.{by-test, by-pick}
@@ -28,7 +28,7 @@ use Rattle.instruction.proofs.Fits.{early-leaves}
 use Rattle.instruction.proofs.Choice.{not-strange, choice, address-choice}
 
 -- 1 to 3 come first
-early-small : (i : Instruction) (v : Values) → earlyOf i v ≤ valueMissing
+pub early-small : (i : Instruction) (v : Values) → earlyOf i v ≤ valueMissing
 unfolding earlyOf
 early-small i v =
     let P : ℕ → Type 0 = λ n. n ≤ valueMissing in
@@ -49,7 +49,7 @@ seven-there i p =
     let left = early-leaves i v passed in
     by-pick P (eqb (c .refusal) 0) (λ z. absurd (omega arith))
     (choice i v (p .page) (p .address) Q (λ n t z. absurd (t .1 .1 z)) (λ _ _ _ z. absurd (omega arith)) (λ _ _ _ z. absurd (omega arith))
-    (λ _. address-choice i v (p .page) Q (λ _ _ _ z. absurd (omega arith)) (λ z. absurd (omega arith))
+    (λ _. address-choice i v (p .page) Q (λ _ _ _ z. absurd (omega arith)) (λ _ _ _ _ z. absurd (omega arith))
     (λ m f b u _. record {
       passed = passed;
       mode = eqb-true (i .operand .mode) modeDirect m;

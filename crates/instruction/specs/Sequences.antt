@@ -1,11 +1,13 @@
 -- 02 n: "in any sequence of builds, after each accepted one, mode and bytes are those of a fresh one with the same values and page. A widened branch still
--- stays long. .. Refusals: 7 only where the parser mode is Direct."
+-- stays long. .. Refusals: 7 only where the parser mode is Direct." 02 e: the page of each build is unknown or known.
 use mathlib.Core.Path.{_≡_}
 use mathlib.Core.Bool.{true, false}
 use mathlib.Core.List.{List, [], _∷_, _++_}
-use Prim.Native.Nat.{ℕ}
-use Rattle.ground.specs.Refusals.{directNotAllowed}
+use mathlib.Core.Logic.{_⊎_}
+use Prim.Native.Nat.{ℕ, _<_}
+use Rattle.ground.specs.Refusals.{badWidth, directNotAllowed}
 use Rattle.values.specs.declared.pages.Page.{Page}
+use Rattle.values.specs.declared.pages.Page.the-variants.{Known}
 use Rattle.values.specs.Pages.{reaches}
 use Rattle.rows.specs.Forms.{direct, extended, relative}
 use Rattle.rows.specs.Lookup.{hasFormOf}
@@ -109,3 +111,21 @@ abbrev pub SevenDirect : Type 0
 SevenDirect =
     (i : Instruction) (p : Present) →
     (builtWith i p .refusal ≡ directNotAllowed → OutOfReach i p) × (OutOfReach i p → builtWith i p .refusal ≡ directNotAllowed)
+
+-- ---- refusal 6 of an address
+-- 1 to 3 passed, a Direct within page 0 that was forced: "a wide forced value under known page 0"
+pub record WideForced (i : Instruction) (p : Present) : Type 0 where
+  pub passed : earlyOf i (p .values) ≡ 0
+  pub mode : i .operand .mode ≡ modeDirect
+  pub form : i .form ≡ direct
+  pub forced : i .operand .forced ≡ true
+  pub wide : p .values .unsigned .width ≡ 16
+  pub page : p .page ≡ Known 0
+  pub within : p .values .unsigned .number < 256
+
+-- "the 6 for a wide forced value under known page 0 only": of every kept instruction that is Direct or Extended
+abbrev pub SixUnderZero : Type 0
+SixUnderZero =
+    (i : Instruction) (p : Present) →
+    (i .form ≡ direct) ⊎ (i .form ≡ extended) →
+    (builtWith i p .refusal ≡ badWidth → WideForced i p) × (WideForced i p → builtWith i p .refusal ≡ badWidth)
