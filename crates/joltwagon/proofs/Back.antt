@@ -10,6 +10,7 @@ use lib.Dec.{eqb, leb, ltb}
 use lib.ListN.{length, getD}
 use Rattle.ground.specs.Choice.{pick}
 use Rattle.ground.proofs.Choices.{by-test, by-pick}
+use Rattle.values.specs.declared.pages.Page.{Page}
 use Rattle.answers.specs.Sizes.{flagCell}
 use Rattle.rows.proofs.Codes.{form-small}
 use Rattle.instruction.specs.declared.Operand.{Operand}
@@ -151,19 +152,19 @@ unfolding makeOf madeAs entryOf
 made-small row =
     let o = toldIn (allFlagged row) row in
     let r = entryOf row in
-    let form = formOf o (r .values) (r .dirty) in
+    let form = formOf o (r .values) (r .page) in
     let P : Made → Type 0 = λ m. m .refusal ≡ 0 → Small (m .instruction) in
     by-test P (recognised o && lawful (r .values))
     (λ _. by-test P (lacks o form) (λ _ z. absurd (omega arith)) (λ t _. formed-small row form (lacking-none o form t)))
     (λ _ z. absurd (omega arith))
 
 -- one that was built
-module _ (i : Instruction) (v : Values) (dirty : Bool) (address : ℕ) (s : Small i) where
-  built-small : buildOf i v dirty address .refusal ≡ 0 → Small (buildOf i v dirty address .instruction)
+module _ (i : Instruction) (v : Values) (page : Page) (address : ℕ) (s : Small i) where
+  built-small : buildOf i v page address .refusal ≡ 0 → Small (buildOf i v page address .instruction)
   unfolding acceptedOf
   built-small e =
-      let b = build-chosen i v dirty address e in
-      let c = chooseOf i v dirty address in
+      let b = build-chosen i v page address e in
+      let c = chooseOf i v page address in
       let h : c .form < 7 = form-small (c .operation) (c .form) (b .fits .row) in
       rw (b .built) (record {
         operation = s .operation;
@@ -175,11 +176,11 @@ module _ (i : Instruction) (v : Values) (dirty : Bool) (address : ℕ) (s : Smal
         registers = s .registers;
       })
 
-  handed-small : handed (buildOf i v dirty address) .refusal ≡ 0 → Small (handed (buildOf i v dirty address) .instruction)
+  handed-small : handed (buildOf i v page address) .refusal ≡ 0 → Small (handed (buildOf i v page address) .instruction)
   unfolding handed
   handed-small =
       let P : Built → Type 0 = λ b. b .refusal ≡ 0 → Small (b .instruction) in
-      let b = buildOf i v dirty address in
+      let b = buildOf i v page address in
       by-test P (eqb (b .refusal) 0) (λ _ z. built-small z) (λ t z. absurd (eqb-false (b .refusal) 0 t z))
 
 fresh-small : (row : List ℕ) (address : ℕ) → freshOf (entryOf row) address .refusal ≡ 0 → Small (freshOf (entryOf row) address .instruction)
@@ -189,7 +190,7 @@ fresh-small row address =
     let r = entryOf row in
     let m = makeOf r in
     by-test P (eqb (m .refusal) 0)
-    (λ t z. handed-small (m .instruction) (r .values) (r .dirty) address (made-small row (eqb-true (m .refusal) 0 t)) z)
+    (λ t z. handed-small (m .instruction) (r .values) (r .page) address (made-small row (eqb-true (m .refusal) 0 t)) z)
     (λ t z. absurd (eqb-false (m .refusal) 0 t z))
 
 -- so the row of each is read as the instruction
@@ -204,6 +205,6 @@ pub fresh-again :
 fresh-again row address e = kept-back _ (fresh-small row address e)
 
 pub built-again :
-    (row : List ℕ) (v : Values) (dirty : Bool) (address : ℕ) → buildOf (keptOf row) v dirty address .refusal ≡ 0 →
-    keptOf (keptCells (buildOf (keptOf row) v dirty address .instruction)) ≡ buildOf (keptOf row) v dirty address .instruction
-built-again row v dirty address e = kept-back _ (built-small (keptOf row) v dirty address (kept-small row) e)
+    (row : List ℕ) (v : Values) (page : Page) (address : ℕ) → buildOf (keptOf row) v page address .refusal ≡ 0 →
+    keptOf (keptCells (buildOf (keptOf row) v page address .instruction)) ≡ buildOf (keptOf row) v page address .instruction
+built-again row v page address e = kept-back _ (built-small (keptOf row) v page address (kept-small row) e)

@@ -8,6 +8,7 @@ use native.Mathlib.Omega.{arith}
 use lib.ListN.{getD}
 use Rattle.ground.specs.Refusals.{unknown}
 use Rattle.ground.proofs.Choices.{pick-true, pick-false}
+use Rattle.values.specs.declared.pages.Page.{Page}
 use Rattle.answers.specs.Said.{Said, said}
 use Rattle.answers.proofs.Laws.{Answers, refused, said-as}
 use Rattle.answers.specs.Sizes.{sizeCells, flagCell}
@@ -147,6 +148,6 @@ pub both-told : {a b x y : Bool} {t : Bool} → a ≡ x → b ≡ y → (a && b)
 both-told p q e = rw (p, q) at e
 
 pub build-told :
-    {b : Built} {i j : Instruction} {v w : Values} {d e : Bool} (address : ℕ) → b ≡ buildOf i v d address → i ≡ j → v ≡ w → d ≡ e →
-    b ≡ buildOf j w e address
-build-told address p q r s = cc
+    {b : Built} {i j : Instruction} {v w : Values} {p q : Page} (address : ℕ) → b ≡ buildOf i v p address → i ≡ j → v ≡ w → p ≡ q →
+    b ≡ buildOf j w q address
+build-told address e f g h = cc

@@ -11,14 +11,14 @@ use Rattle.answers.specs.Sizes.{flagCell}
 use Rattle.instruction.specs.declared.Made.{Made}
 use Rattle.instruction.specs.declared.Built.{Built}
 use Rattle.instruction.specs.Building.{makeOf, buildOf, freshOf}
-use Rattle.entries.specs.Entries.{flagIn, entryOf, keptOf}
+use Rattle.entries.specs.Entries.{pageIn, entryOf, keptOf}
 use Rattle.joltwagon.specs.Kept.{isKept, keptCells, isPresent, presentOf}
 
 -- ---- answers
 unfoldable pub madeSaid : Made → Said
 madeSaid m = said (m .refusal) (keptCells (m .instruction))
 
--- the length, the five bytes, and whether this instruction dirties the page
+-- the length, the five bytes, and whether this instruction leaves the page unknown
 unfoldable pub frontCells : Built → List ℕ
 frontCells b =
     b .length
@@ -48,4 +48,4 @@ assembleSaid row address = ofRow (leb 21 (length row)) (builtSaid (freshOf (entr
 unfoldable pub buildSaid : (kept present : List ℕ) → ℕ → Said
 buildSaid kept present address =
     ofRow (isKept kept && isPresent present)
-    (builtSaid (buildOf (keptOf kept) (presentOf present) (flagIn present 0) address))
+    (builtSaid (buildOf (keptOf kept) (presentOf present) (pageIn present 0) address))

@@ -7,7 +7,7 @@ use lib.ListN.{length, getD}
 use Rattle.answers.specs.Sizes.{flagCell}
 use Rattle.instruction.specs.declared.Values.{Values}
 use Rattle.instruction.specs.declared.Instruction.{Instruction}
-use Rattle.entries.specs.Entries.{isFlag, flagIn, valueIn}
+use Rattle.entries.specs.Entries.{isFlag, flagIn, isPageIn, valueIn}
 
 -- ---- the kept instruction
 -- the row is long enough; a flag of it that is neither 0 nor 1 is unknown in what `keptOf` reads
@@ -38,9 +38,9 @@ keptCells i =
     ∷ []
 
 -- ---- what a build takes anew: the page, and the values
--- the row is long enough, and its flags are 0 or 1
+-- the row is long enough, its first cell is a page, and its flag is 0 or 1
 unfoldable pub isPresent : List ℕ → Bool
-isPresent row = leb 6 (length row) && (isFlag row 0 && isFlag row 1)
+isPresent row = leb 6 (length row) && (isPageIn row 0 && isFlag row 1)
 
 unfoldable pub presentOf : List ℕ → Values
 presentOf row = record { given = flagIn row 1; unsigned = valueIn row 2; signed = valueIn row 4 }

@@ -1,15 +1,15 @@
-// One instruction read, the next of a run, and how many a run has.
+// One instruction read, the next of a run, and how many a run has: each under a page, and 1 where its number is none.
 use answers::flag;
 use answers::hand;
 use answers::size;
 use decoder::Decoded;
+use ground::refusals::UNKNOWN;
+use values::pages::Page;
+use values::pages::is_page;
 ghost use mathlib.Core.Path.{_≡_};
 ghost use lib.ListN.{length};
 ghost use Rattle.answers.specs.Said.{refusalOf, cellsAfter};
-ghost use Rattle.decoder.specs.Origin.{origin};
-ghost use Rattle.decoder.specs.Front.{decodeOf};
-ghost use Rattle.decoder.specs.Run.{runOf, nextOf, countedOf};
-ghost use Rattle.joltwagon.specs.Decoding.{decodedSaid, countedSaid};
+ghost use Rattle.joltwagon.specs.Decoding.{decodedSaid, decodeSaid, nextSaid, countSaid};
 
 fn hand_decoded(d: Decoded, answer: &mut [u16]) -> u8
     ensures { λ r. ⌜ r ≡ refusalOf (decodedSaid d) (length (now (answer .entry))) ⌝ }
@@ -32,31 +32,46 @@ fn hand_decoded(d: Decoded, answer: &mut [u16]) -> u8
     hand(d.refusal, &cells, answer)
 }
 
-// The instruction at the front of bytes that stand from an address on.
+// The instruction at the front of bytes that stand from an address on, read under a page.
 #[no_mangle]
-pub extern "C" fn jw_decode(bytes: &[u8], address: u16, answer: &mut [u16]) -> u8
-    ensures { λ r. ⌜ r ≡ refusalOf (decodedSaid (decodeOf (now (bytes .entry)) (origin address))) (length (now (answer .entry))) ⌝ }
-    ensures { λ _. ⌜ now (answer .exit) ≡ cellsAfter (decodedSaid (decodeOf (now (bytes .entry)) (origin address))) (now (answer .entry)) ⌝ }
+pub extern "C" fn jw_decode(bytes: &[u8], address: u16, page: u16, answer: &mut [u16]) -> u8
+    ensures { λ r. ⌜ r ≡ refusalOf (decodeSaid (now (bytes .entry)) address page) (length (now (answer .entry))) ⌝ }
+    ensures { λ _. ⌜ now (answer .exit) ≡ cellsAfter (decodeSaid (now (bytes .entry)) address page) (now (answer .entry)) ⌝ }
 {
-    hand_decoded(decoder::decode(bytes, address), answer)
+    if is_page(page) {
+        let under = Page::numbered(page);
+        return hand_decoded(decoder::decode(bytes, address, under), answer);
+    }
+    UNKNOWN
 }
 
 // The instruction that begins at a place of a run, whose first byte stands at the address.
 #[no_mangle]
-pub extern "C" fn jw_next(bytes: &[u8], address: u16, at: usize, answer: &mut [u16]) -> u8
-    ensures { λ r. ⌜ r ≡ refusalOf (decodedSaid (nextOf (now (bytes .entry)) (origin address) at)) (length (now (answer .entry))) ⌝ }
-    ensures { λ _. ⌜ now (answer .exit) ≡ cellsAfter (decodedSaid (nextOf (now (bytes .entry)) (origin address) at)) (now (answer .entry)) ⌝ }
+pub extern "C" fn jw_next(bytes: &[u8], address: u16, page: u16, at: usize, answer: &mut [u16]) -> u8
+    ensures { λ r. ⌜ r ≡ refusalOf (nextSaid (now (bytes .entry)) address page at) (length (now (answer .entry))) ⌝ }
+    ensures { λ _. ⌜ now (answer .exit) ≡ cellsAfter (nextSaid (now (bytes .entry)) address page at) (now (answer .entry)) ⌝ }
 {
-    hand_decoded(decoder::next_of_run(bytes, address, at), answer)
+    if is_page(page) {
+        let under = Page::numbered(page);
+        return hand_decoded(
+            decoder::next_of_run(bytes, address, under, at),
+            answer,
+        );
+    }
+    UNKNOWN
 }
 
 // How many instructions a run has, from its first byte to its last.
 #[no_mangle]
-pub extern "C" fn jw_count(bytes: &[u8], address: u16, answer: &mut [u16]) -> u8
-    ensures { λ r. ⌜ r ≡ refusalOf (countedSaid (countedOf (runOf (now (bytes .entry)) (origin address)))) (length (now (answer .entry))) ⌝ }
-    ensures { λ _. ⌜ now (answer .exit) ≡ cellsAfter (countedSaid (countedOf (runOf (now (bytes .entry)) (origin address)))) (now (answer .entry)) ⌝ }
+pub extern "C" fn jw_count(bytes: &[u8], address: u16, page: u16, answer: &mut [u16]) -> u8
+    ensures { λ r. ⌜ r ≡ refusalOf (countSaid (now (bytes .entry)) address page) (length (now (answer .entry))) ⌝ }
+    ensures { λ _. ⌜ now (answer .exit) ≡ cellsAfter (countSaid (now (bytes .entry)) address page) (now (answer .entry)) ⌝ }
 {
-    let counted = decoder::count_run(bytes, address);
-    let cells = size(counted.count);
-    hand(counted.refusal, &cells, answer)
+    if is_page(page) {
+        let under = Page::numbered(page);
+        let counted = decoder::count_run(bytes, address, under);
+        let cells = size(counted.count);
+        return hand(counted.refusal, &cells, answer);
+    }
+    UNKNOWN
 }

@@ -8,8 +8,8 @@ use answers::hand;
 use answers::hand_both;
 use answers::wide;
 use entries::entry_of;
-use entries::flag_in;
 use entries::kept_of;
+use entries::page_in;
 use ground::refusals::UNKNOWN;
 use instruction::Built;
 use instruction::Instruction;
@@ -21,7 +21,7 @@ ghost use Rattle.joltwagon.specs.Instructing.{frontCells, builtSaid, mak
 
 const RECORD: usize = 21;
 
-// The length, the five bytes, and whether this instruction dirties the page: a page that was dirty before it stays so.
+// The length, the five bytes, and whether this instruction leaves the page unknown: else the page is as before.
 fn front_cells(b: Built) -> [u16; 7]
     ensures { λ r. ⌜ r ≡ frontCells b ⌝ }
 {
@@ -84,8 +84,8 @@ pub extern "C" fn jw_build(kept: &[u16], present: &[u16], address: u16, answer: 
     if sound {
         let instruction = kept_of(kept);
         let values = present_of(present);
-        let dirty = flag_in(present, 0);
-        return hand_built(instruction.build(values, dirty, address), answer);
+        let page = page_in(present, 0);
+        return hand_built(instruction.build(values, page, address), answer);
     }
     UNKNOWN
 }

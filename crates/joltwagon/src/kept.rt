@@ -4,6 +4,7 @@ use answers::wide;
 use entries::byte_in;
 use entries::flag_in;
 use entries::is_flag;
+use entries::is_page_in;
 use ground::tables::cell;
 use instruction::Instruction;
 use instruction::Values;
@@ -55,7 +56,7 @@ pub(crate) fn is_present(row: &[u16]) -> bool
     if row.len() < PRESENT {
         return false;
     }
-    is_flag(row, 0) & is_flag(row, 1)
+    is_page_in(row, 0) & is_flag(row, 1)
 }
 
 // The values of a build; the page is the row's first cell.

@@ -12,6 +12,7 @@ use instruction::Operand;
 use instruction::Record;
 use instruction::Values;
 use values::Value;
+use values::pages::Page;
 ghost use Prim.Native.Nat.{_<_};
 
 // One digit for each register that is named.
@@ -49,6 +50,14 @@ pub(crate) fn operand(line: &[u8]) -> Operand {
     }
 }
 
+// The Rust has a flag: "Known 0 answers as clean did, unknown as dirty did".
+fn page(line: &[u8]) -> Page {
+    if has(line, 5, 1) {
+        return Page::Unknown;
+    }
+    Page::Known(0)
+}
+
 fn width(wide: bool) -> u8 {
     if wide { 16 } else { 8 }
 }
@@ -77,7 +86,7 @@ fn differing_bytes(bytes: [u8; 5], line: &[u8], at: usize) -> bool
     !(first & second & (bytes[4] == two(line, at + 8)))
 }
 
-// The form in a digit, with 1 for a dirtied page.
+// The form in a digit, with 1 for a page that is left unknown.
 fn form_digit(form: u8, dirties: bool) -> u16 {
     let doubled = form as u16 * 2;
     if dirties { doubled + 1 } else { doubled }
@@ -102,7 +111,7 @@ pub(crate) fn differs(built: Built, line: &[u8], at: usize) -> bool
 fn assembled(operand: Operand, line: &[u8]) -> Built {
     let record = Record {
         operand,
-        dirty: has(line, 5, 1),
+        page: page(line),
         values: values(line),
     };
     instruction::assemble(record, four(line, 1))
@@ -121,7 +130,7 @@ fn fresh(mut s: State, line: &[u8]) -> State {
 
 fn kept(mut s: State, line: &[u8]) -> State {
     let i = s.instruction;
-    let built = i.build(values(line), has(line, 5, 1), four(line, 1));
+    let built = i.build(values(line), page(line), four(line, 1));
     let next = built.instruction;
     s.instruction = next;
     s.compared(differs(built, line, 14))

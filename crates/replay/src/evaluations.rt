@@ -11,6 +11,7 @@ use expressions::Evaluated;
 use ground::tables::byte;
 use instruction::Record;
 use instruction::Values;
+use values::pages::Page;
 use values::Value;
 ghost use Prim.Native.Nat.{_<_};
 
@@ -71,7 +72,7 @@ fn build(s: State, line: &[u8]) -> State {
     let values = s.values;
     let record = Record {
         operand,
-        dirty: false,
+        page: Page::Known(0),
         values,
     };
     let built = instruction::assemble(record, 0);

@@ -1,10 +1,23 @@
 -- `joltwagon::decoding::jw_count` meets its contract.
 -- Assumes nothing.
 use borrow.Author.Needs.{needs}
+use mathlib.Core.Path.{_∙_, ap}
+use mathlib.Core.Bool.{true, false}
+use Rattle.ground.proofs.Choices.{told}
+use Rattle.values.specs.declared.pages.Page.{Page}
+use Rattle.decoder.specs.Origin.{origin}
+use Rattle.decoder.specs.Run.{runOf, countedOf}
 use Rattle.answers.proofs.Laws.{said-as}
-use Rattle.joltwagon.proofs.Spoken.{counted-said}
+use Rattle.joltwagon.specs.Decoding.{countSaid}
+use Rattle.joltwagon.proofs.Spoken.{counted-said, no-row, row}
 use Rattle.joltwagon.proofs.decoding.jw_count.Statement.{statement}
 use Rattle.joltwagon.proofs.decoding.jw_count.Tie as tie
+
+is-page-requires : tie.Need-is-page-requires
+is-page-requires c κs = search needs
+
+numbered-requires : tie.Need-numbered-requires
+numbered-requires c κs = search needs
 
 count-run-requires : tie.Need-count-run-requires
 count-run-requires c κs = search needs
@@ -22,15 +35,30 @@ same-length : tie.Need-same-length
 same-length c = search needs
 
 returns : tie.Need-returns
-returns c = said-as _ (counted-said (c .before .before .before .before .before .before .count-run .ensures) (c .before .before .before .before .before .size .ensures)) (c .before .before .hand .ensures)
+unfolding countSaid
+returns c =
+    row _ _ (told true (c .before .before .before .before .before .before .before .before .before .is-page .ensures) (c .before .before .before .before .before .before .before .before .if1 .taken))
+    (said-as _
+    (counted-said
+    (c .before .before .before .before .before .before .count-run .ensures
+    ∙ ap (λ (p : Page). countedOf (runOf _ (origin _ p))) (c .before .before .before .before .before .before .before .numbered .ensures))
+    (c .before .before .before .before .before .size .ensures))
+    (c .before .before .hand .ensures))
+
+returns-2 : tie.Need-returns-2
+unfolding countSaid
+returns-2 c = no-row _ _ (told false (c .before .is-page .ensures) (c .if1 .left))
 
 pub jw-count-spec : {M : Type 1} → statement M
 jw-count-spec =
     tie.close
     (tie.spec
+    is-page-requires
+    numbered-requires
     count-run-requires
     size-requires
     slice-aggregate-hand
     hand-requires
     same-length
-    returns)
+    returns
+    returns-2)

@@ -1,11 +1,23 @@
 -- `joltwagon::decoding::jw_decode` meets its contract.
 -- Assumes nothing.
 use borrow.Author.Needs.{needs}
-use mathlib.Core.Path.{ap}
+use mathlib.Core.Path.{_∙_, ap}
+use mathlib.Core.Bool.{true, false}
+use Rattle.ground.proofs.Choices.{told}
+use Rattle.values.specs.declared.pages.Page.{Page}
+use Rattle.decoder.specs.Origin.{origin}
+use Rattle.decoder.specs.Front.{decodeOf}
 use Rattle.answers.proofs.Laws.{said-as}
-use Rattle.joltwagon.specs.Decoding.{decodedSaid}
+use Rattle.joltwagon.specs.Decoding.{decodedSaid, decodeSaid}
+use Rattle.joltwagon.proofs.Spoken.{no-row, row}
 use Rattle.joltwagon.proofs.decoding.jw_decode.Statement.{statement}
 use Rattle.joltwagon.proofs.decoding.jw_decode.Tie as tie
+
+is-page-requires : tie.Need-is-page-requires
+is-page-requires c κs = search needs
+
+numbered-requires : tie.Need-numbered-requires
+numbered-requires c κs = search needs
 
 decode-requires : tie.Need-decode-requires
 decode-requires c κs = search needs
@@ -17,7 +29,27 @@ same-length : tie.Need-same-length
 same-length c = search needs
 
 returns : tie.Need-returns
-returns c = said-as _ (ap decodedSaid (c .before .before .before .before .decode .ensures)) (c .before .before .hand-decoded .ensures)
+unfolding decodeSaid
+returns c =
+    row _ _ (told true (c .before .before .before .before .before .before .before .is-page .ensures) (c .before .before .before .before .before .before .if1 .taken))
+    (said-as _
+    (ap decodedSaid
+    (c .before .before .before .before .decode .ensures
+    ∙ ap (λ (p : Page). decodeOf _ (origin _ p)) (c .before .before .before .before .before .numbered .ensures)))
+    (c .before .before .hand-decoded .ensures))
+
+returns-2 : tie.Need-returns-2
+unfolding decodeSaid
+returns-2 c = no-row _ _ (told false (c .before .is-page .ensures) (c .if1 .left))
 
 pub jw-decode-spec : {M : Type 1} → statement M
-jw-decode-spec = tie.close (tie.spec decode-requires hand-decoded-requires same-length returns)
+jw-decode-spec =
+    tie.close
+    (tie.spec
+    is-page-requires
+    numbered-requires
+    decode-requires
+    hand-decoded-requires
+    same-length
+    returns
+    returns-2)

@@ -20,8 +20,8 @@ kept-of-requires c κs = search needs
 present-of-requires : tie.Need-present-of-requires
 present-of-requires c κs = search needs
 
-flag-in-requires : tie.Need-flag-in-requires
-flag-in-requires c κs = search needs
+page-in-requires : tie.Need-page-in-requires
+page-in-requires c κs = search needs
 
 build-requires : tie.Need-build-requires
 build-requires c κs = search needs
@@ -37,7 +37,7 @@ unfolding buildSaid
 returns c =
     row _ _ (both-told (c .before .before .before .before .before .before .before .before .before .before .is-kept .ensures) (c .before .before .before .before .before .before .before .before .before .is-present .ensures) (c .before .before .before .before .before .before .before .before .if1 .taken))
     (said-as _
-    (ap builtSaid (build-told _ (c .before .before .before .before .build .ensures) (c .before .before .before .before .before .before .before .kept-of .ensures) (c .before .before .before .before .before .before .present-of .ensures) (c .before .before .before .before .before .flag-in .ensures)))
+    (ap builtSaid (build-told _ (c .before .before .before .before .build .ensures) (c .before .before .before .before .before .before .before .kept-of .ensures) (c .before .before .before .before .before .before .present-of .ensures) (c .before .before .before .before .before .page-in .ensures)))
     (c .before .before .hand-built .ensures))
 
 returns-2 : tie.Need-returns-2
@@ -52,7 +52,7 @@ jw-build-spec =
     is-present-requires
     kept-of-requires
     present-of-requires
-    flag-in-requires
+    page-in-requires
     build-requires
     hand-built-requires
     same-length

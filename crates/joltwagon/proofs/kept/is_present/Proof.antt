@@ -10,16 +10,16 @@ returns : tie.Need-returns
 unfolding isPresent
 returns c = rw (lt-leb _ _ (c .if1 .taken))
 
+is-page-in-requires : tie.Need-is-page-in-requires
+is-page-in-requires c κs = search needs
+
 is-flag-requires : tie.Need-is-flag-requires
 is-flag-requires c κs = search needs
 
-is-flag-requires-2 : tie.Need-is-flag-requires-2
-is-flag-requires-2 c κs = search needs
-
 returns-2 : tie.Need-returns-2
 unfolding isPresent
-returns-2 c = rw (le-leb _ _ (c .before .before .if1 .left), c .before .is-flag .ensures, c .is-flag2 .ensures)
+returns-2 c = rw (le-leb _ _ (c .before .before .if1 .left), c .before .is-page-in .ensures, c .is-flag .ensures)
 
 pub is-present-spec : {M : Type 1} → statement M
 is-present-spec =
-    tie.close (tie.spec returns is-flag-requires is-flag-requires-2 returns-2)
+    tie.close (tie.spec returns is-page-in-requires is-flag-requires returns-2)
