@@ -59,10 +59,29 @@ def bound():
     return found
 
 
+def section(heading):
+    """What stands under a heading of docs/ROWS.md, up to the next one of its level; a heading may go on after what is given of it."""
+    level = heading.split(" ")[0]
+    return re.search(rf"^{re.escape(heading)}\b.*?$(.*?)(?=^{level} |\Z)", read("docs/ROWS.md"), re.M | re.S).group(1)
+
+
+def lines(text):
+    """The lines of a table that begin with a number: what it stands for to the number."""
+    return {name: int(number) for number, name in re.findall(r"^\| (\d+) \| (.*?) \|$", text, re.M)}
+
+
 def numbered(title):
-    """The table of that title in docs/ROWS.md: name to number."""
-    section = read("docs/ROWS.md").split(f"## {title}\n", 1)[1].split("\n## ", 1)[0]
-    return {name: int(number) for number, name in re.findall(r"^\| (\d+) \| (.*?) \|$", section, re.M)}
+    return lines(section("## " + title))
+
+
+def places(layout):
+    return lines(section("### " + layout))
+
+
+def statement_kinds():
+    """Kinds stand in one line: `0 a bare label, 1 an instruction, 2 RMB` and so on."""
+    [line] = re.findall(r"^\| 0 \| kind: (.*); another is 1 \|$", section("### Statements"), re.M)
+    return {name: int(number) for number, name in re.findall(r"(\d+) (?:an? )?([^,]+)", line)}
 
 
 def constants(header):
@@ -77,8 +96,8 @@ for where, found in (("the header", prototypes), ("the Rust crate", bound())):
             differing.append(f"{name}: {source.get(name)} in the source, {found.get(name)} in {where}")
 
 
-def held(title, prefix, rename=lambda name: name):
-    for name, number in numbered(title).items():
+def held(table, prefix, rename=lambda name: name):
+    for name, number in table.items():
         constant = "JW_" + prefix + rename(name)
         if numbers.get(constant) != number:
             differing.append(f"{constant}: {numbers.get(constant)} in the header, {number} in docs/ROWS.md")
@@ -90,14 +109,21 @@ def shouted(name):
 
 
 STEPS = {"none": "NONE", "`,R+`": "INC", "`,R++`": "INC2", "`,-R`": "DEC", "`,--R`": "DEC2"}
-held("Operations", "")
+held(numbered("Operations"), "")
 operations = {name: int(n) for name, n in re.findall(r'\("(\w+)", (\d+)\)', read("rust/joltwagon/src/operations.rs"))}
 if operations != numbered("Operations"):
     differing.append("the Rust crate's operations are not those of docs/ROWS.md")
-held("Parser modes", "MODE_", shouted)
-held("Forms", "FORM_", shouted)
-held("Registers", "")
-held("Steps", "STEP_", STEPS.get)
+held(numbered("Parser modes"), "MODE_", shouted)
+held(numbered("Forms"), "FORM_", shouted)
+held(numbered("Registers"), "")
+held(numbered("Steps"), "STEP_", STEPS.get)
+held(numbered("Pages"), "PAGE_", str.upper)
+held(statement_kinds(), "", lambda name: name.upper().replace(" ", "_"))
+held({"PAGE": places("Present rows")["the page"], "RECORD_PRESENT": places("Records")["the page"]}, "")
+crate = {name: int(n) for name, n in re.findall(r"pub const (\w+): u16 = (\d+);", read("rust/joltwagon/src/raw.rs"))}
+for name, number in crate.items():
+    if numbers.get("JW_" + name) != number:
+        differing.append(f"{name}: {number} in the Rust crate, {numbers.get('JW_' + name)} in the header")
 for name, number in numbered("Meaning kinds").items():
     if name != "none" and numbers.get("JW_KIND_" + name.upper()) != number:
         differing.append(f"JW_KIND_{name.upper()}: not {number}")

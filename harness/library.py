@@ -70,10 +70,10 @@ def runs_of(text):
     return found
 
 
-def decoded(data, address):
-    """Length, operation, kind, indirect, step, registers, first, second, number; or a refusal's number."""
+def decoded(data, address, page):
+    """Length, operation, kind, indirect, step, registers, first, second, number; or a refusal's number. The page is 0 to 255, or 256 for unknown."""
     answer = words([0] * 9)
-    refusal = LIBRARY.jw_decode(data, ctypes.c_size_t(len(data)), ctypes.c_uint16(address), *lent(answer))
+    refusal = LIBRARY.jw_decode(data, ctypes.c_size_t(len(data)), ctypes.c_uint16(address), ctypes.c_uint16(page), *lent(answer))
     return refusal & 255 or list(answer)
 
 

@@ -1,14 +1,14 @@
-"""Document 01's back end said a second time, in plain Python, to compare the library with: values, builds, statements, passes, text.
+"""Document 01's back end, as document 02 changed it, said a second time, in plain Python, to compare the library with: values, builds, statements, passes, text.
 
-It is written from document 01, docs/DECISIONS.md and docs/SHEET.md, knows nothing of the proved code, and makes no claim to speed. A refusal is an
-exception that carries its number.
+It is written from documents 01 and 02, docs/DECISIONS.md and docs/SHEET.md, knows nothing of the proved code, and makes no claim to speed. A refusal is an
+exception that carries its number. The page of direct addresses is a number, or None where it is unknown.
 """
 import sheet
 
 NONE = 65535
 ROW = 20
 REGISTER, OFFSET, PCRELATIVE, INCDEC, EXTENDED, DIRECT, IMMEDIATE, INHERENT = range(8)
-BARE, INSTRUCTION, RMB, FCB, FDB, FCC, ORG = range(7)
+BARE, INSTRUCTION, RMB, FCB, FDB, FCC, ORG, SETDP = range(8)
 
 NAMES = {number: name for name, number in sheet.OPERATIONS.items()}
 OPERATIONS, FORMS, REGISTERS = sheet.OPERATIONS, sheet.FORMS, sheet.REGISTERS
@@ -32,20 +32,20 @@ def merged(operation):
 
 
 def code_of(operation, form):
-    """(page, code) of an operation in a form, or None."""
+    """(prefix, code) of an operation in a form, or None; the prefix is 0 where there is none."""
     return CODES.get((merged(operation), FORMS[form]))
 
 
-def is_long(page, code):
-    return page == 0x10 or code in (0x16, 0x17)
+def is_long(prefix, code):
+    return prefix == 0x10 or code in (0x16, 0x17)
 
 
 def number_bytes(operation, form):
     """How many bytes of number follow the code of an immediate or a branch."""
-    page, code = code_of(operation, form)
+    prefix, code = code_of(operation, form)
     if form == "immediate":
-        return 2 if page or (page, code) in WIDE_IMMEDIATES else 1
-    return 2 if is_long(page, code) else 1
+        return 2 if prefix or (prefix, code) in WIDE_IMMEDIATES else 1
+    return 2 if is_long(prefix, code) else 1
 
 
 def smallest_size(operation):
@@ -122,7 +122,12 @@ def both(first, second):
 
 
 # ---- one instruction
-def form_of(operation, mode, indirect, forced, pair, dirty):
+def on_page(page, address):
+    """Whether a direct code reaches the address: the page "is known and equals its high byte"."""
+    return page is not None and address >> 8 == page
+
+
+def form_of(operation, mode, indirect, forced, pair, page):
     """The form that a fresh record takes, and whether Direct is on trial; 2 where the row has no such mode."""
     own = "register" if merged(operation) in PAIRS + PUSHES else None
     form, trial = None, False
@@ -136,7 +141,7 @@ def form_of(operation, mode, indirect, forced, pair, dirty):
         form = "indexed"
     elif mode == EXTENDED:
         if code_of(operation, "extended"):
-            trial = not dirty and not forced and pair is not None and pair[0][0] < 256
+            trial = not forced and pair is not None and on_page(page, pair[0][0])
             form = "direct" if trial else "extended"
         else:
             form = "relative"
@@ -154,19 +159,19 @@ def check_operand(o):
         raise Refused(1)
     if any(register > 9 for register in registers[:count]) or (mode == INCDEC and step == 0):
         raise Refused(1)
-    form_of(operation, mode, indirect, forced, None, False)
+    form_of(operation, mode, indirect, forced, None, None)
 
 
-def build(o, pair, dirty, here):
-    """(bytes, whether the page is dirtied) of a fresh instruction; refusals 3, 7, 6, 5, 4, 8 in this order."""
+def build(o, pair, page, here):
+    """(bytes, whether the page is unknown after it) of a fresh instruction; refusals 3, 7, 6, 5, 4, 8 in this order."""
     operation, mode, indirect, forced, step, widening, count, registers = o
     registers = registers[:count]
-    form, _ = form_of(operation, mode, indirect, forced, pair, dirty)
+    form, _ = form_of(operation, mode, indirect, forced, pair, page)
     if mode in (EXTENDED, DIRECT, IMMEDIATE, PCRELATIVE) and pair is None:
         raise Refused(3)
     unsigned = pair[0] if pair else None
-    page, code = code_of(operation, form)
-    head = ([page] if page else []) + [code]
+    prefix, code = code_of(operation, form)
+    head = ([prefix] if prefix else []) + [code]
     if form == "inherent":
         if pair:
             raise Refused(6)
@@ -174,11 +179,11 @@ def build(o, pair, dirty, here):
     if form == "immediate":
         return head + immediate(number_bytes(operation, form), *unsigned), False
     if form == "direct":
-        # a forced or plain Direct is not on trial; one on trial was chosen because the value fits
-        if mode == DIRECT and not (not dirty and not forced and unsigned[0] < 256):
-            if dirty or unsigned[0] > 255:
-                raise Refused(7)
-        if forced and unsigned[1] == 16:
+        # one on trial was chosen because it lies on the page
+        if not on_page(page, unsigned[0]):
+            raise Refused(7)
+        # "the 6 for a wide forced value under known page 0 only"
+        if forced and unsigned[1] == 16 and page == 0:
             raise Refused(6)
         return head + [unsigned[0] % 256], False
     if form == "extended":
@@ -186,7 +191,7 @@ def build(o, pair, dirty, here):
     if form == "relative":
         return branch(operation, unsigned[0], widening, here), False
     if form == "register":
-        return head + [register_byte(merged(operation), registers)], dirties(merged(operation), registers)
+        return head + [register_byte(merged(operation), registers)], loads_dp(merged(operation), registers)
     return head + index(mode, indirect, step, registers, pair, here, len(head)), False
 
 
@@ -197,7 +202,7 @@ def immediate(size, number, width):
 
 
 def branch(operation, target, widening, here):
-    page, code = code_of(operation, "relative")
+    prefix, code = code_of(operation, "relative")
     if number_bytes(operation, "relative") == 1:
         distance = (target - here - 2) % 65536
         if distance < 128 or distance >= 65408:
@@ -205,8 +210,8 @@ def branch(operation, target, widening, here):
         if not widening:
             raise Refused(8)
         name = NAMES[merged(operation)]
-        page, code = code_of(OPERATIONS["L" + name], "relative")
-    head = ([page] if page else []) + [code]
+        prefix, code = code_of(OPERATIONS["L" + name], "relative")
+    head = ([prefix] if prefix else []) + [code]
     distance = (target - here - len(head) - 2) % 65536
     return head + [distance >> 8, distance & 255]
 
@@ -227,7 +232,7 @@ def register_byte(operation, registers):
     return byte
 
 
-def dirties(operation, registers):
+def loads_dp(operation, registers):
     if operation == OPERATIONS["TFR"]:
         return registers[1] == DP
     return operation in (OPERATIONS["EXG"], OPERATIONS["PULS"], OPERATIONS["PULU"]) and DP in registers
@@ -288,9 +293,14 @@ def asked(part):
         return None, refused.number
 
 
+SAME = object()
+
+
 class Effect:
-    def __init__(self, refusal=0, size=0, to=None, dirties=False, values=()):
-        self.refusal, self.size, self.to, self.dirties, self.values = refusal, size, to, dirties, list(values)
+    """What a statement does: `to` is where it moves, `page` the page after it, SAME for the one before. A refused one does neither."""
+
+    def __init__(self, refusal=0, size=0, to=None, page=SAME, values=()):
+        self.refusal, self.size, self.to, self.page, self.values = refusal, size, to, page, list(values)
 
 
 def operand_in(row):
@@ -298,8 +308,8 @@ def operand_in(row):
     return (*cells[:6], cells[6], list(cells[7:15]))
 
 
-def effect(row, items, worth, here, dirty, ill):
-    """What a statement does at an address: its refusal, what it counts, where it moves, its values (number, width)."""
+def effect(row, items, worth, here, page, ill):
+    """What a statement does at an address under a page: its refusal, what it counts, where it moves, the page after it, its values (number, width)."""
     kind, _, node, first, count = row[:5]
     own = 10 if ill else 0
     if kind == BARE:
@@ -312,10 +322,10 @@ def effect(row, items, worth, here, dirty, ill):
         pair, late = asked(lambda: worth.pair(node, here)) if node != NONE else (None, 0)
         if late or own:
             return Effect(first_of([late, own]), smallest_size(o[0]))
-        answer, why = asked(lambda: build(o, pair, dirty, here))
+        answer, why = asked(lambda: build(o, pair, page, here))
         if why:
             return Effect(why, smallest_size(o[0]))
-        return Effect(0, len(answer[0]), dirties=answer[1], values=[(byte, 8) for byte in answer[0]])
+        return Effect(0, len(answer[0]), page=None if answer[1] else SAME, values=[(byte, 8) for byte in answer[0]])
     if kind in (RMB, ORG):
         at = here if kind == RMB else 0
         pair, why = asked(lambda: worth.pair(node, at)) if node != NONE else (None, 3)
@@ -331,6 +341,10 @@ def effect(row, items, worth, here, dirty, ill):
             met.append(why)
             values.append(value)
         return Effect(first_of(met), count * (2 if kind == FDB else 1), values=values)
+    if kind == SETDP:
+        # its number stands in the row itself, where others have their node
+        why = first_of([1 if node > 255 else 0, own])
+        return Effect(why) if why else Effect(page=node)
     return Effect(1)
 
 
@@ -380,7 +394,7 @@ def settle(list_, items, nodes, labels):
 
 
 def one_pass(statements, items, nodes, table, sizes, bearer):
-    at, dirty, changed, starts, done = 0, False, False, {0}, []
+    at, page, changed, starts, done = 0, 0, False, {0}, []
     worth = Values(nodes, table)
     for i, row in enumerate(statements):
         label = row[1]
@@ -388,7 +402,7 @@ def one_pass(statements, items, nodes, table, sizes, bearer):
         if label != NONE and not ill:
             changed |= table[label][1] != at % 65536
             table[label][1] = at % 65536
-        e = counted(at, effect(row, items, worth, at % 65536, dirty, ill))
+        e = counted(at, effect(row, items, worth, at % 65536, page, ill))
         if e.to is not None and e.to != 0:
             if e.to in starts:
                 e = Effect(12)
@@ -399,7 +413,7 @@ def one_pass(statements, items, nodes, table, sizes, bearer):
         changed |= sizes[i] != e.size
         sizes[i] = e.size
         done.append((row, at, e))
-        dirty |= e.dirties and not e.refusal
+        page = page if e.page is SAME else e.page
         at = e.to if e.to is not None else at + e.size
     return changed, done
 
@@ -445,7 +459,7 @@ def assemble(list_, items, nodes, labels, object_rows=10**9, value_rows=10**9):
     for row, at, e in done:
         if e.refusal:
             return e.refusal, passes, None, None, None
-        if row[0] != BARE:
+        if row[0] not in (BARE, SETDP):
             objects.append(object_of(row, at, e))
             values += e.values
         if len(objects) > object_rows or len(values) > value_rows or lacks_row(row, labels):

@@ -43,7 +43,7 @@ enum jw_refusal {
     JW_TOO_DEEP = 11,            /* expression deeper than 32, or node number unknown */
     JW_SEGMENT_REPEATED = 12,    /* segment start repeated, not 0 */
     JW_NOT_SETTLED = 13,         /* 64 passes and not settled */
-    JW_UNDEFINED = 14,           /* opcode or postbyte undefined */
+    JW_UNDEFINED = 14,           /* opcode or postbyte undefined; a direct opcode under an unknown page */
     JW_CUT_SHORT = 15,           /* bytes end inside an instruction */
     JW_BROKEN_TEXT = 16,         /* text breaks Intel's rules */
     JW_OVER_LIMIT = 17,          /* more than 1,024 statements or nodes, 64 segments, or 256 values in a statement */
@@ -129,6 +129,10 @@ enum jw_kind {
     JW_KIND_ADDRESS = 11
 };
 
+/* A page is what is known of the register DP: its number, 0 to 255, which is the high byte of every address that a direct code reaches; or
+ * JW_PAGE_UNKNOWN. Another number where a page is asked for is JW_UNKNOWN. */
+enum { JW_PAGE_UNKNOWN = 256 };
+
 /* ---- layouts: the cell at which each part stands, and how many cells there are ---- */
 
 /* A size: four cells, the lowest 16 bits first. */
@@ -151,7 +155,7 @@ enum {
 
 /* What a build takes anew: the page, and the values. */
 enum {
-    JW_PAGE_DIRTY = 0,
+    JW_PAGE = 0, /* 0 to 255, or JW_PAGE_UNKNOWN */
     JW_VALUES_GIVEN = 1,
     JW_UNSIGNED = 2, /* a number, and its width in the next cell */
     JW_SIGNED = 4,   /* likewise; so the answer of jw_node may go to `present + JW_UNSIGNED` */
@@ -166,7 +170,7 @@ enum { JW_FORM = 15, JW_TRIAL = 16, JW_WIDENED = 17, JW_KEPT_CELLS = 18 };
 enum {
     JW_BUILT_LENGTH = 0,
     JW_BUILT_BYTES = 1, /* five cells, 0 beyond the length */
-    JW_BUILT_DIRTIES = 6, /* this instruction dirties the page. One that was dirty stays so: `dirty |= answer[JW_BUILT_DIRTIES]` */
+    JW_BUILT_FORGETS_PAGE = 6, /* a flag: whatever the page was, this instruction leaves it unknown. Without it the page stays as it was */
     JW_BUILT_KEPT = 7, /* a kept instruction */
     JW_BUILT_CELLS = 25
 };
@@ -195,11 +199,12 @@ enum { JW_NODE_ROW = 3, JW_LABEL_ROW = 3, JW_OBJECT_ROW = 3, JW_VALUE_ROW = 2, J
  * beyond the table means the whole table. */
 enum { JW_SEGMENTS_CELLS = 64 };
 
-/* A statement. Its items stand in a table of their own: node numbers for FCB and FDB (JW_NONE is a hole), characters for FCC. */
+/* A statement. Its items stand in a table of their own: node numbers for FCB and FDB (JW_NONE is a hole), characters for FCC. It has no page of
+ * its own: a pass begins at page 0, and JW_SETDP and the instructions that leave the page unknown change it for what follows. */
 enum {
     JW_STATEMENT_KIND = 0,
     JW_STATEMENT_LABEL = 1, /* its own label, or JW_NONE */
-    JW_STATEMENT_NODE = 2,  /* the node of its operand, or JW_NONE */
+    JW_STATEMENT_NODE = 2,  /* the node of its operand, or JW_NONE; of JW_SETDP the page itself, 0 to 255 */
     JW_STATEMENT_FIRST = 3, /* its first item */
     JW_STATEMENT_COUNT = 4, /* how many items */
     JW_STATEMENT_OPERAND = 5,
@@ -215,7 +220,8 @@ enum jw_statement {
     JW_FCB = 3,
     JW_FDB = 4,
     JW_FCC = 5,
-    JW_ORG = 6
+    JW_ORG = 6,
+    JW_SETDP = 7
 };
 
 /* The number that a size says. */
@@ -244,14 +250,19 @@ uint8_t jw_lay(const uint16_t *list, size_t list_len, uint16_t address, uint8_t 
 
 /* ---- decoding ---- */
 
+/* Each call takes the page under which it reads, 0 to 255 or JW_PAGE_UNKNOWN, and one page serves a whole run, whatever the run does to the register
+ * DP. A page that is none is JW_UNKNOWN, before every other refusal. A direct code is read as the address in the page; under an unknown one it is
+ * JW_UNDEFINED, also where its address is cut off. */
+
 /* The instruction at the front of bytes that stand from an address on. */
-uint8_t jw_decode(const uint8_t *bytes, size_t bytes_len, uint16_t address, uint16_t *answer, size_t answer_len);
+uint8_t jw_decode(const uint8_t *bytes, size_t bytes_len, uint16_t address, uint16_t page, uint16_t *answer, size_t answer_len);
 
 /* The instruction that begins at a place of a run, whose first byte stands at the address. */
-uint8_t jw_next(const uint8_t *bytes, size_t bytes_len, uint16_t address, size_t at, uint16_t *answer, size_t answer_len);
+uint8_t jw_next(const uint8_t *bytes, size_t bytes_len, uint16_t address, uint16_t page, size_t at, uint16_t *answer,
+                size_t answer_len);
 
 /* How many instructions a run has: the answer is a size. */
-uint8_t jw_count(const uint8_t *bytes, size_t bytes_len, uint16_t address, uint16_t *answer, size_t answer_len);
+uint8_t jw_count(const uint8_t *bytes, size_t bytes_len, uint16_t address, uint16_t page, uint16_t *answer, size_t answer_len);
 
 /* ---- expressions and labels ---- */
 

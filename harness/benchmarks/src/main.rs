@@ -19,6 +19,9 @@ use std::hint::black_box;
 /// What is decoded, read and written: the bytes of all records, over and over.
 const LONGEST: usize = 65_504;
 
+/// The records were built on page 0 and are read under it.
+const PAGE: u16 = 0;
+
 struct Data {
     lines: Vec<records::Line>,
     ours: records::Ours,
@@ -35,7 +38,7 @@ fn data(lines: Vec<records::Line>, size: usize) -> Data {
     'full: loop {
         let mut at = 0;
         while at < once.len() {
-            let length = raw::decode(&once[at..], 0).unwrap()[0] as usize;
+            let length = raw::decode(&once[at..], 0, PAGE).unwrap()[0] as usize;
             if image.len() + length > size {
                 break 'full;
             }
@@ -54,7 +57,7 @@ fn run_length(bytes: &[u8]) -> usize {
     let (mut at, mut count) = (0, 0);
     let mut answer = [0; raw::READ];
     while at < bytes.len() {
-        raw::next_into(bytes, 0, at, &mut answer).unwrap();
+        raw::next_into(bytes, 0, PAGE, at, &mut answer).unwrap();
         at += answer[0] as usize;
         count += 1;
     }
@@ -101,11 +104,11 @@ fn compare_builds(what: &str, d: &Data) {
 
 fn compare_decoding(what: &str, d: &Data) {
     let n = run_length(&d.image);
-    assert_eq!(raw::count(&d.image, 0), Ok(n));
+    assert_eq!(raw::count(&d.image, 0, PAGE), Ok(n));
     assert_eq!(capstone::count(&d.image, 0), n, "capstone reads another number of instructions");
     let times = race(vec![
         rival("this library: jw_next, every meaning", || { black_box(run_length(&d.image)); }),
-        rival("this library: jw_count", || { black_box(raw::count(&d.image, 0).unwrap()); }),
+        rival("this library: jw_count", || { black_box(raw::count(&d.image, 0, PAGE).unwrap()); }),
         rival("capstone: cs_disasm_iter, no details", || { black_box(capstone::count(&d.image, 0)); }),
     ]);
     table(&format!("Decoding{what}, {n} instructions"), "instruction", n, &times);
@@ -164,7 +167,7 @@ fn growth() {
         let n = d.image.len();
         let (mut out, mut bytes, mut runs) = (vec![0; d.text.len()], vec![0; n], vec![0; 2]);
         let times = race(vec![
-            rival("", || { black_box(raw::count(&d.image, 0).unwrap()); }),
+            rival("", || { black_box(raw::count(&d.image, 0, PAGE).unwrap()); }),
             rival("", || { black_box(texts::write(&d.tables, &mut out)); }),
             rival("", || { black_box(texts::read(&d.text, &mut bytes, &mut runs)); }),
         ]);
@@ -207,7 +210,7 @@ fn repeat(work: &str, times: usize) {
             "rust-fresh" => building::rust_fresh(records::theirs(&d.lines), &mut instructions),
             "rust-again" => building::rust_again(&mut instructions),
             "decode" => run_length(&d.image),
-            "count" => raw::count(&d.image, 0).unwrap(),
+            "count" => raw::count(&d.image, 0, PAGE).unwrap(),
             "capstone" => capstone::count(&d.image, 0),
             "write" => texts::write(&d.tables, &mut out),
             "rust-write" => texts::rust_write(&d.image, &mut theirs),

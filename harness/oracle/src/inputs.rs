@@ -23,6 +23,7 @@ pub struct Operand {
 #[derive(Clone, Copy, Debug)]
 pub struct Build {
     pub address: u16,
+    /// The Rust's flag: a clean page is 02's page 0, a dirty one is unknown.
     pub dirty: bool,
     pub values: Option<(Value, Value)>,
 }

@@ -24,11 +24,16 @@ extern "C" {
 /// A kept instruction is a row that the caller does not look into, but for its last three cells: form, trial mark, widening.
 pub type Row = [u16; 18];
 
-/// The page, and the values where there are any.
+/// An unknown page as a number of a row.
+const PAGE_UNKNOWN: u16 = 256;
+
+/// The page, and the values where there are any. 02 e: "Known 0 answers as clean did, unknown as dirty did, and equality with the Rust is claimed for
+/// those two."
 fn present_of(b: &Build) -> [u16; 6] {
+    let page = if b.dirty { PAGE_UNKNOWN } else { 0 };
     match b.values {
-        Some((u, s)) => [b.dirty as u16, 1, u.number, u.width as u16, s.number, s.width as u16],
-        None => [b.dirty as u16, 0, 0, 0, 0, 0],
+        Some((u, s)) => [page, 1, u.number, u.width as u16, s.number, s.width as u16],
+        None => [page, 0, 0, 0, 0, 0],
     }
 }
 

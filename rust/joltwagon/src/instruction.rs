@@ -1,4 +1,4 @@
-use crate::{raw, NodeId, Operation, ProgramLabels, Result};
+use crate::{raw, NodeId, Operation, Page, ProgramLabels, Result};
 
 /// The parser's addressing modes.
 #[derive(Clone, Copy, PartialEq, Eq, Debug)]
@@ -59,12 +59,12 @@ impl OperandDescriptor {
 }
 
 /// The page and the values of one build.
-fn present(value: Option<NodeId>, addr: u16, labels: &ProgramLabels, dp_dirty: bool) -> Result<[u16; raw::PRESENT]> {
+fn present(value: Option<NodeId>, addr: u16, labels: &ProgramLabels, page: Page) -> Result<[u16; raw::PRESENT]> {
     match value {
-        None => Ok([dp_dirty as u16, 0, 0, 0, 0, 0]),
+        None => Ok([page.number(), 0, 0, 0, 0, 0]),
         Some(node) => {
             let (u, s) = labels.eval(node, addr)?;
-            Ok([dp_dirty as u16, 1, u.number, u.width as u16, s.number, s.width as u16])
+            Ok([page.number(), 1, u.number, u.width as u16, s.number, s.width as u16])
         }
     }
 }
@@ -99,25 +99,26 @@ pub struct Instruction {
 
 impl Instruction {
     /// Makes an instruction. `widening` allows a short branch to become its long one. In document 01's order: 1 and 2 of the operand, then 11 and 10 of its
-    /// expression, then 1 of the values.
-    pub fn try_new(id: Operation, od: &OperandDescriptor, addr: u16, labels: &ProgramLabels, dp_dirty: bool, widening: bool) -> Result<Instruction> {
+    /// expression, then 1 of the values. The page is a [`Page`], or the old tool's `dp_dirty`.
+    pub fn try_new(id: Operation, od: &OperandDescriptor, addr: u16, labels: &ProgramLabels, page: impl Into<Page>, widening: bool) -> Result<Instruction> {
         let mut row = record(id, od, widening);
         raw::make(&row)?;
-        row[15..].copy_from_slice(&present(od.value, addr, labels, dp_dirty)?);
+        row[15..].copy_from_slice(&present(od.value, addr, labels, page.into())?);
         let kept = raw::make(&row)?;
         Ok(Instruction { value: od.value, kept, bytes: Vec::new(), changes_dp: false })
     }
 
-    /// Builds the instruction at an address. A refusal leaves it as it was.
-    pub fn build(&mut self, addr: u16, labels: &ProgramLabels, dp_dirty: bool) -> Result<&[u8]> {
-        let answer = raw::build(&self.kept, &present(self.value, addr, labels, dp_dirty)?, addr)?;
+    /// Builds the instruction at an address. The page is a [`Page`], or the old tool's `dp_dirty`. A refusal leaves the instruction as it was.
+    pub fn build(&mut self, addr: u16, labels: &ProgramLabels, page: impl Into<Page>) -> Result<&[u8]> {
+        let answer = raw::build(&self.kept, &present(self.value, addr, labels, page.into())?, addr)?;
         self.bytes = answer[1..=answer[0] as usize].iter().map(|&byte| byte as u8).collect();
         self.changes_dp = answer[6] == 1;
         self.kept.copy_from_slice(&answer[7..]);
         Ok(&self.bytes)
     }
 
-    /// Whether this instruction, as last built, dirties the page. A page that was dirty before it stays so: `dp_dirty |= instruction.changes_dp()`.
+    /// Whether this instruction, as last built, leaves the page unknown, whatever it was. Otherwise the page stays as it was; with the old tool's flag,
+    /// `dp_dirty |= instruction.changes_dp()`.
     pub fn changes_dp(&self) -> bool {
         self.changes_dp
     }
@@ -173,19 +174,20 @@ fn read(cells: [u16; raw::READ]) -> Decoded {
     Decoded { length: length as usize, operation: Operation(operation), kind }
 }
 
-/// The instruction at the front of bytes that stand from an address on.
-pub fn decode(bytes: &[u8], address: u16) -> Result<Decoded> {
-    raw::decode(bytes, address).map(read)
+/// The instruction at the front of bytes that stand from an address on. A direct code is read as the address in the page; under an unknown one it is
+/// refused 14.
+pub fn decode(bytes: &[u8], address: u16, page: Page) -> Result<Decoded> {
+    raw::decode(bytes, address, page.number()).map(read)
 }
 
-/// The instructions of a run, one after the other; the first that is refused is the last.
-pub fn run(bytes: &[u8], address: u16) -> impl Iterator<Item = Result<Decoded>> + '_ {
+/// The instructions of a run, one after the other; the first that is refused is the last. All are read under one page, whatever they do to DP.
+pub fn run(bytes: &[u8], address: u16, page: Page) -> impl Iterator<Item = Result<Decoded>> + '_ {
     let mut at = 0;
     std::iter::from_fn(move || {
         if at >= bytes.len() {
             return None;
         }
-        let next = raw::next(bytes, address, at).map(read);
+        let next = raw::next(bytes, address, page.number(), at).map(read);
         at = next.as_ref().map_or(bytes.len(), |decoded| at + decoded.length);
         Some(next)
     })

@@ -6,6 +6,7 @@
 mod instruction;
 mod labels;
 mod operations;
+mod page;
 pub mod raw;
 mod segments;
 mod text;
@@ -13,6 +14,7 @@ mod text;
 pub use instruction::{decode, run, Decoded, Instruction, Kind, Mode, OperandDescriptor, Register, Step};
 pub use labels::{Node, NodeId, ProgramLabels, Value};
 pub use operations::Operation;
+pub use page::Page;
 pub use segments::ProgramSegments;
 pub use text::{read_hex, write_hex, BinaryObject, Run};
 
@@ -42,7 +44,7 @@ impl Refused {
             11 => "expression deeper than 32, or node number unknown",
             12 => "segment start repeated",
             13 => "64 passes and not settled",
-            14 => "opcode or postbyte undefined",
+            14 => "opcode or postbyte undefined, or a direct opcode under an unknown page",
             15 => "bytes end inside an instruction",
             16 => "text breaks Intel's rules",
             17 => "too many statements, nodes, segments or values",

@@ -8,6 +8,13 @@ pub const PRESENT: usize = 6;
 pub const KEPT: usize = 18;
 pub const BUILT: usize = 25;
 pub const READ: usize = 9;
+pub const STATEMENT: usize = 20;
+
+/// The number of an unknown page, where known ones are 0 to 255. Any other is refused 1.
+pub const PAGE_UNKNOWN: u16 = 256;
+
+/// The kind of the statement SETDP, whose number, 0 to 255, stands where others have their node.
+pub const SETDP: u16 = 7;
 
 mod c {
     extern "C" {
@@ -15,9 +22,9 @@ mod c {
         pub fn jw_assemble(record: *const u16, record_len: usize, address: u16, answer: *mut u16, answer_len: usize) -> u8;
         pub fn jw_build(kept: *const u16, kept_len: usize, present: *const u16, present_len: usize, address: u16, answer: *mut u16, answer_len: usize) -> u8;
         pub fn jw_lay(list: *const u16, list_len: usize, address: u16, out: *mut u8, out_len: usize, answer: *mut u16, answer_len: usize) -> u8;
-        pub fn jw_decode(bytes: *const u8, bytes_len: usize, address: u16, answer: *mut u16, answer_len: usize) -> u8;
-        pub fn jw_next(bytes: *const u8, bytes_len: usize, address: u16, at: usize, answer: *mut u16, answer_len: usize) -> u8;
-        pub fn jw_count(bytes: *const u8, bytes_len: usize, address: u16, answer: *mut u16, answer_len: usize) -> u8;
+        pub fn jw_decode(bytes: *const u8, bytes_len: usize, address: u16, page: u16, answer: *mut u16, answer_len: usize) -> u8;
+        pub fn jw_next(bytes: *const u8, bytes_len: usize, address: u16, page: u16, at: usize, answer: *mut u16, answer_len: usize) -> u8;
+        pub fn jw_count(bytes: *const u8, bytes_len: usize, address: u16, page: u16, answer: *mut u16, answer_len: usize) -> u8;
         pub fn jw_node(nodes: *const u16, nodes_len: usize, labels: *const u16, labels_len: usize, node: u16, location: u16, answer: *mut u16, answer_len: usize) -> u8;
         pub fn jw_label(nodes: *const u16, nodes_len: usize, labels: *const u16, labels_len: usize, label: u16, answer: *mut u16, answer_len: usize) -> u8;
         pub fn jw_move_labels(labels: *mut u16, labels_len: usize, left: u16, right: u16, by: u16);
@@ -78,20 +85,20 @@ pub fn lay(list: &[u16], address: u16, out: &mut [u8]) -> Result<usize> {
     Ok(size(&cells))
 }
 
-pub fn decode(bytes: &[u8], address: u16) -> Result<[u16; READ]> {
-    asked(|answer| accepted(unsafe { c::jw_decode(bytes.as_ptr(), bytes.len(), address, answer.as_mut_ptr(), answer.len()) }))
+pub fn decode(bytes: &[u8], address: u16, page: u16) -> Result<[u16; READ]> {
+    asked(|answer| accepted(unsafe { c::jw_decode(bytes.as_ptr(), bytes.len(), address, page, answer.as_mut_ptr(), answer.len()) }))
 }
 
-pub fn next_into(bytes: &[u8], address: u16, at: usize, answer: &mut [u16]) -> Result<()> {
-    accepted(unsafe { c::jw_next(bytes.as_ptr(), bytes.len(), address, at, answer.as_mut_ptr(), answer.len()) })
+pub fn next_into(bytes: &[u8], address: u16, page: u16, at: usize, answer: &mut [u16]) -> Result<()> {
+    accepted(unsafe { c::jw_next(bytes.as_ptr(), bytes.len(), address, page, at, answer.as_mut_ptr(), answer.len()) })
 }
 
-pub fn next(bytes: &[u8], address: u16, at: usize) -> Result<[u16; READ]> {
-    asked(|answer| next_into(bytes, address, at, answer))
+pub fn next(bytes: &[u8], address: u16, page: u16, at: usize) -> Result<[u16; READ]> {
+    asked(|answer| next_into(bytes, address, page, at, answer))
 }
 
-pub fn count(bytes: &[u8], address: u16) -> Result<usize> {
-    asked::<4>(|answer| accepted(unsafe { c::jw_count(bytes.as_ptr(), bytes.len(), address, answer.as_mut_ptr(), answer.len()) })).map(|cells| size(&cells))
+pub fn count(bytes: &[u8], address: u16, page: u16) -> Result<usize> {
+    asked::<4>(|answer| accepted(unsafe { c::jw_count(bytes.as_ptr(), bytes.len(), address, page, answer.as_mut_ptr(), answer.len()) })).map(|cells| size(&cells))
 }
 
 pub fn node_into(nodes: &[u16], labels: &[u16], node: u16, location: u16, answer: &mut [u16]) -> Result<()> {

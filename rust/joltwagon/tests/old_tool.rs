@@ -151,12 +151,12 @@ fn text_there_and_back() {
     let text = write_hex(&[code, space, more]).unwrap();
     let runs = read_hex(text.as_bytes()).unwrap();
     assert_eq!(runs, [Run { addr: 0x100, bytes: vec![0xA6, 0x84, 0x39] }, Run { addr: 0x200, bytes: (0..40).collect() }]);
-    let meant: Vec<_> = run(&runs[0].bytes, runs[0].addr).collect::<Result<_>>().unwrap();
+    let meant: Vec<_> = run(&runs[0].bytes, runs[0].addr, Page::Known(0)).collect::<Result<_>>().unwrap();
     let offset = Kind::Offset { register: Register::X, indirect: false, offset: 0 };
     assert_eq!(meant[0], Decoded { length: 2, operation: named("LDA"), kind: offset });
     assert_eq!(meant[1], Decoded { length: 1, operation: named("RTS"), kind: Kind::Inherent });
-    assert_eq!(raw::count(&runs[0].bytes, 0x100), Ok(2));
-    assert_eq!(decode(&[0x34, 0x86], 0), Ok(Decoded { length: 2, operation: named("PSHS"), kind: Kind::Push(vec![Register::A, Register::B, Register::PC]) }));
+    assert_eq!(raw::count(&runs[0].bytes, 0x100, 0), Ok(2));
+    assert_eq!(decode(&[0x34, 0x86], 0, Page::Known(0)), Ok(Decoded { length: 2, operation: named("PSHS"), kind: Kind::Push(vec![Register::A, Register::B, Register::PC]) }));
     assert_eq!(write_hex(&[]).unwrap(), ":00000001FF\n");
     assert_eq!(read_hex(b":00000001FF").unwrap(), []);
     assert_eq!(read_hex(b"nothing"), Err(Refused(16)));
@@ -173,7 +173,7 @@ fn old_cartridge() {
     assert_eq!(runs.iter().map(|run| run.addr).collect::<Vec<_>>(), [0xC000, 0xC200]);
     let mut open = BTreeSet::new();
     let mut at = 0;
-    for decoded in run(&runs[0].bytes, runs[0].addr) {
+    for decoded in run(&runs[0].bytes, runs[0].addr, Page::Known(0)) {
         let Decoded { length, operation, kind } = decoded.unwrap();
         let (addr, bytes) = (runs[0].addr + at as u16, &runs[0].bytes[at..at + length]);
         at += length;
