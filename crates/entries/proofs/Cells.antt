@@ -3,7 +3,7 @@
 use mathlib.Core.Path.{_≡_, refl}
 use mathlib.Core.List.{List}
 use Prim.Native.Nat.{ℕ}
-use Rattle.entries.specs.Entries.{byteIn, isFlag, flagIn, flaggedIn, cellsOf, registersIn, fieldsIn, toldIn, operandOf, keptFlagged, keptOf, valueIn, valuesIn, allFlagged, entryOf}
+use Rattle.entries.specs.Entries.{byteIn, isFlag, flagIn, isPageIn, pageIn, flaggedIn, cellsOf, registersIn, fieldsIn, toldIn, operandOf, keptFlagged, keptOf, valueIn, valuesIn, allFlagged, entryOf}
 
 pub operand-of-cells : (row : List ℕ) → operandOf (cellsOf row) ≡ operandOf row
 unfolding cellsOf operandOf toldIn flaggedIn isFlag fieldsIn registersIn flagIn byteIn
@@ -14,5 +14,5 @@ unfolding cellsOf keptOf toldIn keptFlagged flaggedIn isFlag fieldsIn registersI
 kept-of-cells row = refl
 
 pub entry-of-cells : (row : List ℕ) → entryOf (cellsOf row) ≡ entryOf row
-unfolding cellsOf entryOf toldIn allFlagged flaggedIn isFlag fieldsIn registersIn valuesIn valueIn flagIn byteIn
+unfolding cellsOf entryOf toldIn allFlagged flaggedIn isFlag isPageIn pageIn fieldsIn registersIn valuesIn valueIn flagIn byteIn
 entry-of-cells row = refl

@@ -2,7 +2,7 @@
 -- that is not below 65536 was refused.
 -- Assumes nothing.
 use mathlib.Core.Path.{_≡_, refl, subst}
-use mathlib.Core.Bool.{Bool, true, false, _||_}
+use mathlib.Core.Bool.{true, false, _||_}
 use mathlib.Core.Logic.{_⊎_, ⊎-elim}
 use mathlib.Core.List.{List, [], _∷_}
 use Prim.Native.Nat.{ℕ, zero, suc, _<_}
@@ -13,6 +13,7 @@ use borrow.Author.Tests.{eqb-true, eqb-false, ltb-false}
 use Rattle.ground.specs.Words.{plus, minus, high, low}
 use Rattle.ground.proofs.Choices.{by-test, by-pick}
 use Rattle.ground.proofs.Tests.{neither-left}
+use Rattle.values.specs.declared.pages.Page.{Page}
 use Rattle.rows.specs.declared.Coded.{Coded}
 use Rattle.rows.specs.declared.Coded.the-variants.{Code, Unknown, Missing}
 use Rattle.rows.specs.Forms.{inherent, immediate, direct, indexed, extended, relative}
@@ -74,9 +75,9 @@ module _ (i : Instruction) (v : Values) (early : Early i v) where
       (λ c. by-test Small (eqb (o .mode) modeIncDec) (λ _. by-pick Small _ tt (by-pick Small _ tt (omega arith)))
       (λ d. extended-word q (eqb-false (o .mode) 0 a) (eqb-false (o .mode) 1 b) (eqb-false (o .mode) 2 c) (eqb-false (o .mode) 3 d)))))
 
-  choose-small : (dirty : Bool) (address : ℕ) → Small (chooseOf i v dirty address)
+  choose-small : (page : Page) (address : ℕ) → Small (chooseOf i v page address)
   unfolding chooseOf inherentOf immediateOf addressOf directlyOf staysDirect leavesDirect anewOf anewAs branchOf longBranch registersOf
-  choose-small dirty address =
+  choose-small page address =
       by-pick Small (eqb (i .form) inherent) (by-pick Small _ tt tt)
       (by-pick Small (eqb (i .form) immediate) (by-pick Small _ tt tt)
       (by-pick Small (eqb (i .form) direct || eqb (i .form) extended)
@@ -106,14 +107,14 @@ listed-byte o =
     by-pick (λ (l : Listed). l .byte < 256) (isPair (o .operation)) (pair-byte-fits (o .registers) (o .count))
     (push-byte-fits (ownStack (o .operation)) (o .registers) (o .count))
 
-operand-bytes : (operand : Operand) (address o form after : ℕ) (a : Argument) → ArgumentFits operand address o form a → Addressed a → postbytes.Bytes (operandBytes o form a after)
+operand-bytes : (operand : Operand) (page : Page) (address o form after : ℕ) (a : Argument) → ArgumentFits operand page address o form a → Addressed a → postbytes.Bytes (operandBytes o form a after)
 unfolding operandBytes
-operand-bytes operand address o form after Nothing f s = number-bytes 0 0 (omega arith)
-operand-bytes operand address o form after (Number n) f s = number-bytes (numberSizeOf o form) n (f .word)
-operand-bytes operand address o form after (Target t) f s = number-bytes (numberSizeOf o form) (minus t (plus after (numberSizeOf o form))) (omega arith)
-operand-bytes operand address o form after (Indexed index) f s = bytes-fit index s
-operand-bytes operand address o form after (Relative t ind) f s = relative-bytes-fit t after ind
-operand-bytes operand address o form after (Registers b) f s =
+operand-bytes operand page address o form after Nothing f s = number-bytes 0 0 (omega arith)
+operand-bytes operand page address o form after (Number n) f s = number-bytes (numberSizeOf o form) n (f .word)
+operand-bytes operand page address o form after (Target t) f s = number-bytes (numberSizeOf o form) (minus t (plus after (numberSizeOf o form))) (omega arith)
+operand-bytes operand page address o form after (Indexed index) f s = bytes-fit index s
+operand-bytes operand page address o form after (Relative t ind) f s = relative-bytes-fit t after ind
+operand-bytes operand page address o form after (Registers b) f s =
     let e = f .byte in
     let h = listed-byte operand in
     up-to-three b 0 0 (omega arith) (omega arith) (omega arith)
@@ -136,30 +137,30 @@ page-small o form p c e =
     ⊎-elim (λ (q : p ≡ 0x00). omega arith) (λ (w : (p ≡ 0x10) ⊎ (p ≡ 0x11)). ⊎-elim (λ (q : p ≡ 0x10). omega arith) (λ (q : p ≡ 0x11). omega arith) w)
     (pages o form p c e)
 
-laid-bytes : (operand : Operand) (address : ℕ) (c : Chosen) → Fits operand address c → Addressed (c .argument) → Bytes (laidOf c address .bytes)
+laid-bytes : (operand : Operand) (under : Page) (address : ℕ) (c : Chosen) → Fits operand under address c → Addressed (c .argument) → Bytes (laidOf c address .bytes)
 unfolding laidOf laidAt
-laid-bytes operand address c f s = from (codeOf (c .operation) (c .form)) refl
+laid-bytes operand under address c f s = from (codeOf (c .operation) (c .form)) refl
   where
     from : (k : Coded) → codeOf (c .operation) (c .form) ≡ k → Bytes (laidAt k c address .bytes)
     from (Code page code) e =
         behind-bytes page code (operandBytes (c .operation) (c .form) (c .argument) (plus address (codeSize page)))
         (page-small (c .operation) (c .form) page code e) (code-small (c .operation) (c .form) page code e)
-        (operand-bytes operand address (c .operation) (c .form) (plus address (codeSize page)) (c .argument) (f .argument) s)
+        (operand-bytes operand under address (c .operation) (c .form) (plus address (codeSize page)) (c .argument) (f .argument) s)
     from Unknown e = (omega arith, (omega arith, (omega arith, (omega arith, (omega arith, tt)))))
     from Missing e = (omega arith, (omega arith, (omega arith, (omega arith, (omega arith, tt)))))
 
 abbrev AllBytes : Built → Type 0
 AllBytes b = Bytes (bytesIn b)
 
-build-bytes : (i : Instruction) (v : Values) (dirty : Bool) (address : ℕ) → AllBytes (buildOf i v dirty address)
+build-bytes : (i : Instruction) (v : Values) (page : Page) (address : ℕ) → AllBytes (buildOf i v page address)
 unfolding buildOf finishedOf acceptedOf
-build-bytes i v dirty address =
-    let c = chooseOf i v dirty address in
+build-bytes i v page address =
+    let c = chooseOf i v page address in
     by-test AllBytes (eqb (earlyOf i v) 0)
     (λ a. by-test AllBytes (eqb (c .refusal) 0)
     (λ d. let e = early-leaves i v (eqb-true (earlyOf i v) 0 a) in
     bytes-take (laidOf c address .length) (laidOf c address .bytes)
-    (laid-bytes (i .operand) address c (choose-fits i v dirty address e (eqb-true (c .refusal) 0 d)) (choose-small i v e dirty address)))
+    (laid-bytes (i .operand) page address c (choose-fits i v page address e (eqb-true (c .refusal) 0 d)) (choose-small i v e page address)))
     (λ _. tt))
     (λ _. tt)
 
@@ -167,7 +168,7 @@ pub fresh-bytes : (r : Record) (address : ℕ) → Bytes (bytesIn (freshOf r add
 unfolding freshOf freshFrom handed
 fresh-bytes r address =
     let m = makeOf r in
-    let b = buildOf (m .instruction) (r .values) (r .dirty) address in
+    let b = buildOf (m .instruction) (r .values) (r .page) address in
     by-pick AllBytes (eqb (m .refusal) 0)
-    (by-pick AllBytes (eqb (b .refusal) 0) (build-bytes (m .instruction) (r .values) (r .dirty) address) tt)
+    (by-pick AllBytes (eqb (b .refusal) 0) (build-bytes (m .instruction) (r .values) (r .page) address) tt)
     tt

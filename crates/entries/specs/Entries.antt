@@ -1,4 +1,4 @@
--- Rows of numbers (docs/ROWS.md): an operand record is 15 of the operand, then page dirty, values given, and the two values; a kept instruction is the 15, then its
+-- Rows of numbers (docs/ROWS.md): an operand record is 15 of the operand, then the page, values given, and the two values; a kept instruction is the 15, then its
 -- form and its two marks. What lies past a row's end is 0.
 use Prim.Native.Nat.{ℕ, zero, suc, _+_}
 use mathlib.Core.Bool.{Bool, _&&_}
@@ -7,6 +7,8 @@ use lib.Dec.{eqb, ltb, leb}
 use lib.ListN.{getD}
 use Rattle.ground.specs.Choice.{pick}
 use Rattle.values.specs.declared.Value.{Value}
+use Rattle.values.specs.declared.pages.Page.{Page}
+use Rattle.values.specs.Pages.{isPage, pageNumbered}
 use Rattle.instruction.specs.declared.Operand.{Operand}
 use Rattle.instruction.specs.declared.Values.{Values}
 use Rattle.instruction.specs.declared.Record.{Record}
@@ -28,6 +30,13 @@ isFlag row at = leb (getD row at 0) 1
 
 unfoldable pub flagIn : List ℕ → ℕ → Bool
 flagIn row at = eqb (getD row at 0) 1
+
+-- a cell that is a page holds its number: 0 to 255, and 256 for unknown
+unfoldable pub isPageIn : List ℕ → ℕ → Bool
+isPageIn row at = isPage (getD row at 0)
+
+unfoldable pub pageIn : List ℕ → ℕ → Page
+pageIn row at = pageNumbered (getD row at 0)
 
 -- the cells of a row, from a place on
 abbrev pub cellsFrom : List ℕ → ℕ → ℕ → List ℕ
@@ -96,9 +105,9 @@ valueIn row at = record { number = getD row at 0; width = byteIn row (at + 1) }
 unfoldable pub valuesIn : List ℕ → Values
 valuesIn row = record { given = flagIn row 16; unsigned = valueIn row 17; signed = valueIn row 19 }
 
--- page dirty and values given are flags too
+-- the page is one, and values given is a flag too
 unfoldable pub allFlagged : List ℕ → Bool
-allFlagged row = flaggedIn row && (isFlag row 15 && isFlag row 16)
+allFlagged row = flaggedIn row && (isPageIn row 15 && isFlag row 16)
 
 unfoldable pub entryOf : List ℕ → Record
-entryOf row = record { operand = toldIn (allFlagged row) row; dirty = flagIn row 15; values = valuesIn row }
+entryOf row = record { operand = toldIn (allFlagged row) row; page = pageIn row 15; values = valuesIn row }

@@ -6,12 +6,14 @@ use instruction::Operand;
 use instruction::Record;
 use instruction::Values;
 use values::Value;
+use values::pages::Page;
+use values::pages::is_page;
 ghost use mathlib.Core.Path.{_≡_};
 ghost use Prim.Native.Nat.{_≤_};
 ghost use lib.Dec.{ltb};
 ghost use lib.ListN.{length};
 ghost use Rattle.ground.specs.Choice.{pick};
-ghost use Rattle.entries.specs.Entries.{nowhere, byteIn, isFlag, flagIn, flaggedIn, cellsOf, registersIn, toldIn, operandOf, keptFlagged, keptOf, valuesIn, entryOf};
+ghost use Rattle.entries.specs.Entries.{nowhere, byteIn, isFlag, flagIn, isPageIn, pageIn, flaggedIn, cellsOf, registersIn, toldIn, operandOf, keptFlagged, keptOf, valuesIn, entryOf};
 
 // No operation, mode, register, step or width has this number, and no list so many registers.
 const NOWHERE: u8 = 255;
@@ -41,6 +43,19 @@ pub fn flag_in(row: &[u16], at: usize) -> bool
     ensures { λ r. ⌜ r ≡ flagIn (now (row .entry)) at ⌝ }
 {
     cell(row, at) == 1
+}
+
+// A cell holds a page: 0 to 255, or 256 for unknown.
+pub fn is_page_in(row: &[u16], at: usize) -> bool
+    ensures { λ r. ⌜ r ≡ isPageIn (now (row .entry)) at ⌝ }
+{
+    is_page(cell(row, at))
+}
+
+pub fn page_in(row: &[u16], at: usize) -> Page
+    ensures { λ r. ⌜ r ≡ pageIn (now (row .entry)) at ⌝ }
+{
+    Page::numbered(cell(row, at))
 }
 
 // The cells of a row that may be shorter than a record.
@@ -214,12 +229,13 @@ fn entry_in(row: &[u16]) -> Record
     requires { ⌜ 21 ≤ length (now row) ⌝ }
     ensures { λ r. ⌜ r ≡ entryOf (now (row .entry)) ⌝ }
 {
-    let flags = flagged(row) & ((row[15] <= 1) & (row[16] <= 1));
+    let flags = flagged(row) & ((row[15] <= 256) & (row[16] <= 1));
     let operand = told(row, flags);
+    let page = Page::numbered(row[15]);
     let values = values_in(row);
     Record {
         operand,
-        dirty: row[15] == 1,
+        page,
         values,
     }
 }

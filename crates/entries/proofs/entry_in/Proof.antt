@@ -1,7 +1,8 @@
 -- `entries::entry_in` meets its contract.
 -- Assumes nothing.
 use borrow.Author.Needs.{needs}
-use Rattle.entries.specs.Entries.{isFlag, flagIn, allFlagged, entryOf}
+use Rattle.values.specs.Pages.{isPage}
+use Rattle.entries.specs.Entries.{isFlag, isPageIn, pageIn, allFlagged, entryOf}
 use Rattle.entries.proofs.entry_in.Statement.{statement}
 use Rattle.entries.proofs.entry_in.Tie as tie
 
@@ -17,19 +18,23 @@ shared-slice-read-flags-2 c = search needs
 told-requires : tie.Need-told-requires
 told-requires c κs = search needs
 
+shared-slice-read-numbered : tie.Need-shared-slice-read-numbered
+shared-slice-read-numbered c = search needs
+
+numbered-requires : tie.Need-numbered-requires
+numbered-requires c κs = search needs
+
 values-in-requires : tie.Need-values-in-requires
 values-in-requires c κs = search needs
 
-shared-slice-read-t7 : tie.Need-shared-slice-read-t7
-shared-slice-read-t7 c = search needs
-
 returns : tie.Need-returns
-unfolding entryOf allFlagged isFlag flagIn
+unfolding entryOf allFlagged isFlag isPageIn isPage pageIn
 returns c =
     rw (
-      c .before .before .told .ensures,
-      c .before .before .before .before .before .flagged .ensures,
-      c .before .values-in .ensures,
+      c .before .before .before .told .ensures,
+      c .before .before .before .before .before .before .flagged .ensures,
+      c .before .numbered .ensures,
+      c .values-in .ensures,
     )
 
 pub entry-in-spec : {M : Type 1} → statement M
@@ -40,6 +45,7 @@ entry-in-spec =
     shared-slice-read-flags
     shared-slice-read-flags-2
     told-requires
+    shared-slice-read-numbered
+    numbered-requires
     values-in-requires
-    shared-slice-read-t7
     returns)
