@@ -1,16 +1,17 @@
--- Cases of the definitions under a single statement: document 01's run, its forms of LDA and BRA read, and the boundaries of each refusal. And a kind
--- loses nothing in its number and values.
+-- Cases of the definitions under a single statement: document 01's run, its forms of LDA and BRA read, the boundaries of each refusal, and direct codes
+-- under known pages and under none. And a kind loses nothing in its number and values.
 -- Assumes nothing.
 use mathlib.Core.Path.{_≡_, refl}
 use mathlib.Core.Bool.{true, false}
-use mathlib.Core.List.{List, [], _∷_, map}
+use mathlib.Core.List.{List, [], _∷_, _++_, map}
 use Prim.Native.Nat.{ℕ}
 use lib.Dec.{eqb}
 use lib.ListN.{getD}
 use Rattle.ground.specs.Choice.{pick}
 use Rattle.ground.specs.Refusals.{undefined, cutShort, beyond}
 use Rattle.values.specs.Widths.{extended}
-use Rattle.values.specs.declared.pages.Page.the-variants.{Known}
+use Rattle.values.specs.declared.pages.Page.{Page}
+use Rattle.values.specs.declared.pages.Page.the-variants.{Unknown, Known}
 use Rattle.rows.specs.Sheet.{page0, page10, page11, tableOf}
 use Rattle.rows.specs.Lookup.{rowOf}
 use Rattle.rows.specs.Sizes.{isWide, isLong, numberAt}
@@ -22,6 +23,7 @@ use Rattle.postbytes.specs.Lists.{otherOf, sizeOf}
 use Rattle.postbytes.specs.ListsRead.{registersOf, pairOf}
 use Rattle.decoder.specs.declared.Origin.{Origin}
 use Rattle.decoder.specs.declared.Decoded.{Decoded}
+use Rattle.decoder.specs.declared.Counted.{Counted}
 use Rattle.decoder.specs.declared.Parts.{Parts}
 use Rattle.decoder.specs.declared.Kind.{Kind}
 use Rattle.decoder.specs.declared.Kind.the-variants.{None, Inherent, Immediate, Memory, Branch, Push, Pair, Offset, Counter, Accumulator, Step, Address}
@@ -29,18 +31,27 @@ use Rattle.decoder.specs.Origin.{origin, shifted, outside, targetOf, dir
 use Rattle.decoder.specs.Meaning.{answer, refuse, joined, partsOf}
 use Rattle.decoder.specs.Operands.{numberOf, distanceOf, numberedOf, numberedAt, resolved, indexedAs, indexedAt, ownOf, registersAt, operandOf}
 use Rattle.decoder.specs.Front.{codedOf, frontOf, decodeOf}
-use Rattle.decoder.specs.Run.{runFrom, runOf, nextOf}
+use Rattle.decoder.specs.Run.{runFrom, runOf, countedOf, nextOf}
 
--- bytes at an address, of which the front is read, a whole run, or the instruction at a place of a run
+-- bytes at an address, of which the front is read, a whole run, or the instruction at a place of a run, or instructions are counted
 pub data Question : Type 0 where
   front : List ℕ → ℕ → Question
   run : List ℕ → ℕ → Question
   next : List ℕ → ℕ → ℕ → Question
+  count : List ℕ → ℕ → Question
 
-abbrev ask : Question → List Decoded
-ask (front l at) = decodeOf l (origin at (Known 0)) ∷ []
-ask (run l at) = runOf l (origin at (Known 0))
-ask (next l at n) = nextOf l (origin at (Known 0)) n ∷ []
+pub data Answer : Type 0 where
+  all : List Decoded → Answer
+  counted : Counted → Answer
+
+abbrev only : Decoded → Answer
+only d = all (d ∷ [])
+
+abbrev ask : Page → Question → Answer
+ask page (front l at) = only (decodeOf l (origin at page))
+ask page (run l at) = all (runOf l (origin at page))
+ask page (next l at n) = only (nextOf l (origin at page) n)
+ask page (count l at) = counted (countedOf (runOf l (origin at page)))
 
 abbrev asked : List Question
 asked =
@@ -80,12 +91,25 @@ asked =
     ∷ run (0x12 ∷ 0x12 ∷ []) 0xFFFF ∷ run [] 0xFFFF ∷ run (0x12 ∷ 0x01 ∷ 0x12 ∷ []) 0
     ∷ []
 
-abbrev only : Decoded → List Decoded
-only d = d ∷ []
+-- LDA direct between two NOPs
+abbrev between : List ℕ
+between = 0x12 ∷ 0x96 ∷ 0x05 ∷ 0x12 ∷ []
 
-abbrev answered : List (List Decoded)
+-- asked under each of three pages
+abbrev paged : List Question
+paged =
+    -- LDA direct, its code alone, the code of LDY direct, its prefix alone; LDA extended
+    front (0x96 ∷ 0x05 ∷ []) 0 ∷ front (0x96 ∷ []) 0 ∷ front (0x10 ∷ 0x9E ∷ []) 0 ∷ front (0x10 ∷ []) 0
+    ∷ front (0xB6 ∷ 0x20 ∷ 0x05 ∷ []) 0
+    -- beyond 65535
+    ∷ front (0x96 ∷ 0x05 ∷ []) 0xFFFF
+    -- a run with a direct code in its middle: whole, at that code and behind it, counted
+    ∷ run between 0 ∷ next between 0 1 ∷ next between 0 3 ∷ count between 0
+    ∷ []
+
+abbrev answered : List Answer
 answered =
-    (answer 2 54 (Offset X false 0) ∷ answer 1 128 Inherent ∷ [])
+    all (answer 2 54 (Offset X false 0) ∷ answer 1 128 Inherent ∷ [])
     ∷ only (answer 1 128 Inherent)
     ∷ only (answer 2 54 (Offset X false 0)) ∷ only (answer 2 54 (Offset Y false 15)) ∷ only (answer 2 54 (Offset U false 0xFFF0))
     ∷ only (answer 3 54 (Offset U false 0xFFEF)) ∷ only (answer 4 54 (Offset S false 128)) ∷ only (answer 3 54 (Offset X true 5))
@@ -109,11 +133,33 @@ answered =
     ∷ only (refuse cutShort) ∷ only (refuse cutShort)
     ∷ only (refuse cutShort)
     ∷ only (refuse beyond) ∷ only (refuse beyond) ∷ only (answer 1 124 Inherent)
-    ∷ only (refuse beyond) ∷ [] ∷ (answer 1 124 Inherent ∷ refuse undefined ∷ [])
+    ∷ only (refuse beyond) ∷ all [] ∷ all (answer 1 124 Inherent ∷ refuse undefined ∷ [])
     ∷ []
 
-pub cases : map ask asked ≡ answered
-unfolding decodeOf runOf nextOf runFrom frontOf codedOf joined operandOf indexedAt indexedAs registersAt numberedAt numberedOf numberOf distanceOf ownOf shifted outside targetOf directOf unseen rowOf tableOf page0 page10 page11 isWide isLong numberAt shapeOf highOf directOnly addressOnly registersOf pairOf otherOf sizeOf extended pick
+-- under a known page, where the byte 05 stands for that address
+abbrev known : ℕ → List Answer
+known address =
+    only (answer 2 54 (Memory address)) ∷ only (refuse cutShort) ∷ only (refuse cutShort) ∷ only (refuse cutShort)
+    ∷ only (answer 3 54 (Memory 0x2005))
+    ∷ only (refuse beyond)
+    ∷ all (answer 1 124 Inherent ∷ answer 2 54 (Memory address) ∷ answer 1 124 Inherent ∷ [])
+    ∷ only (answer 2 54 (Memory address)) ∷ only (answer 1 124 Inherent)
+    ∷ counted (record { refusal = 0; count = 3 })
+    ∷ []
+
+abbrev unknown : List Answer
+unknown =
+    only (refuse undefined) ∷ only (refuse undefined) ∷ only (refuse undefined) ∷ only (refuse cutShort)
+    ∷ only (answer 3 54 (Memory 0x2005))
+    ∷ only (refuse beyond)
+    ∷ all (answer 1 124 Inherent ∷ refuse undefined ∷ []) ∷ only (refuse undefined) ∷ only (answer 1 124 Inherent)
+    ∷ counted (record { refusal = undefined; count = 0 })
+    ∷ []
+
+pub cases :
+    map (ask (Known 0)) (asked ++ paged) ++ map (ask (Known 0x20)) paged ++ map (ask Unknown) paged
+    ≡ answered ++ known 0x0005 ++ known 0x2005 ++ unknown
+unfolding decodeOf runOf countedOf nextOf runFrom frontOf codedOf joined operandOf indexedAt indexedAs registersAt numberedAt numberedOf numberOf distanceOf ownOf shifted outside targetOf directOf unseen rowOf tableOf page0 page10 page11 isWide isLong numberAt shapeOf highOf directOnly addressOnly registersOf pairOf otherOf sizeOf extended pick
 cases = refl
 
 -- ---- a kind from its number and values

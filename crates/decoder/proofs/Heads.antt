@@ -21,11 +21,11 @@ use Rattle.decoder.specs.Front.{isPrefix, codedOf, prefixedOf, frontOf}
 use Rattle.decoder.specs.Head.{behindPrefix, headOf}
 
 -- the instruction that begins so
-abbrev instruction : Head → List ℕ → Origin → Decoded
+abbrev pub instruction : Head → List ℕ → Origin → Decoded
 instruction (Code page code size) l from = codedOf page code size (restOf (drop size l)) from
 instruction Cut l from = refuse cutShort
 
-front-head : (l : List ℕ) (from : Origin) → frontOf l from ≡ instruction (headOf l) l from
+pub front-head : (l : List ℕ) (from : Origin) → frontOf l from ≡ instruction (headOf l) l from
 unfolding frontOf headOf pick
 front-head [] from = refl
 front-head (a ∷ l) from = go (isPrefix a) l

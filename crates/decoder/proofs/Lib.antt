@@ -4,6 +4,7 @@ pub mod Origins
 pub mod Bytes
 pub mod Instructions
 pub mod Judged
+pub mod Unseen
 pub mod Meant
 pub mod Runs
 pub mod Back

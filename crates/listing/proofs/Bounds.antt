@@ -17,13 +17,13 @@ use Rattle.records.specs.Text.{Rec}
 use Rattle.reader.specs.Answers.{bytesOf, runsIn}
 use Rattle.decoder.specs.declared.Decoded.{Decoded}
 use Rattle.decoder.specs.declared.Origin.{Origin}
-use Rattle.decoder.specs.Origin.{origin, shifted, outside}
+use Rattle.decoder.specs.Origin.{shifted, outside}
 use Rattle.decoder.specs.Meaning.{refuse}
 use Rattle.decoder.specs.Front.{frontOf}
 use Rattle.decoder.specs.Run.{runFrom, runOf}
 use Rattle.decoder.proofs.Runs.{accepted-size, moved, stopped}
 use Rattle.listing.specs.Lines.{lineOf, end, refused}
-use Rattle.listing.specs.Listing.{Lines, Instruction, Refused, inRun, inRuns, refusalOf, linesOf, printed, listingOf}
+use Rattle.listing.specs.Listing.{Lines, Instruction, Refused, readFrom, inRun, inRuns, refusalOf, linesOf, printed, listingOf}
 use Rattle.listing.proofs.Writing.{line-length, last-short}
 use Rattle.listing.proofs.Texts.{data-small}
 use Rattle.listing.proofs.Walking.{taken}
@@ -92,7 +92,7 @@ runs-fit [] count = omega (arith, last-short end count)
 runs-fit (r ∷ rs) count =
     omega (
       arith,
-      whole-fits (inRuns rs) (8 * length (bytesOf rs) + 14) (omega arith) (runs-fit rs) (r .bytes) (origin (r .address)) (r .address) count,
+      whole-fits (inRuns rs) (8 * length (bytesOf rs) + 14) (omega arith) (runs-fit rs) (r .bytes) (readFrom (r .address)) (r .address) count,
       length-append (r .bytes) (bytesOf rs),
     )
 

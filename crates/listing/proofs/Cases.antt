@@ -18,7 +18,7 @@ use Rattle.reader.specs.Digits.{digitOf, pairOf as digitPair, behind}
 use Rattle.reader.specs.Lines.{countOf, addressOf, typeOf, dataOf, sound, endsLine, afterEnd, recordOf, lineIn, recordsIn}
 use Rattle.reader.specs.Answers.{runsIn}
 use Rattle.reader.proofs.Cases.{first, end}
-use Rattle.decoder.specs.Origin.{shifted, outside, targetOf, directOf}
+use Rattle.decoder.specs.Origin.{shifted, outside, targetOf, directOf, unseen}
 use Rattle.decoder.specs.Meaning.{joined}
 use Rattle.decoder.specs.Operands.{numberOf, distanceOf, numberedOf, numberedAt, indexedAs, indexedAt, ownOf, registersAt, operandOf}
 use Rattle.decoder.specs.Front.{codedOf, frontOf}
@@ -44,6 +44,8 @@ asked =
     ∷ (text (rec 0x0100 (0x12 ∷ 0x01 ∷ 0x12 ∷ []) ∷ rec 0x0200 (0x12 ∷ []) ∷ []))
     -- an instruction cut short after another of its run
     ∷ (text (rec 0x0100 (0x12 ∷ 0xA6 ∷ []) ∷ []))
+    -- a direct code, which a page that is known lets the program read
+    ∷ (text (rec 0x0100 (0x96 ∷ 0x05 ∷ []) ∷ []))
     -- a run up to the last address, and one beyond it
     ∷ (text (rec 0xFFFF (0x39 ∷ []) ∷ []))
     ∷ (text (rec 0xFFFF (0x39 ∷ 0x39 ∷ []) ∷ []))
@@ -63,11 +65,13 @@ answered =
     ∷ 114 ∷ 101 ∷ 102 ∷ 117 ∷ 115 ∷ 101 ∷ 100 ∷ 32 ∷ 49 ∷ 52 ∷ 10 ∷ [])
     ∷ (48 ∷ 49 ∷ 48 ∷ 48 ∷ 32 ∷ 49 ∷ 50 ∷ 10
     ∷ 114 ∷ 101 ∷ 102 ∷ 117 ∷ 115 ∷ 101 ∷ 100 ∷ 32 ∷ 49 ∷ 53 ∷ 10 ∷ [])
+    ∷ (48 ∷ 49 ∷ 48 ∷ 48 ∷ 32 ∷ 57 ∷ 54 ∷ 32 ∷ 48 ∷ 53 ∷ 10
+    ∷ 101 ∷ 110 ∷ 100 ∷ 32 ∷ 49 ∷ 10 ∷ [])
     ∷ (70 ∷ 70 ∷ 70 ∷ 70 ∷ 32 ∷ 51 ∷ 57 ∷ 10
     ∷ 101 ∷ 110 ∷ 100 ∷ 32 ∷ 49 ∷ 10 ∷ [])
     ∷ (114 ∷ 101 ∷ 102 ∷ 117 ∷ 115 ∷ 101 ∷ 100 ∷ 32 ∷ 49 ∷ 56 ∷ 10 ∷ [])
     ∷ []
 
 pub cases : map listingOf asked ≡ answered
-unfolding listingOf linesOf refusalOf runsIn lineOf placeOf decimal lastLine recordsIn lineIn recordOf sound endsLine afterEnd behind countOf addressOf typeOf dataOf digitPair digitOf line body checkOf hexOf runOf runFrom frontOf codedOf joined operandOf indexedAt indexedAs registersAt numberedAt numberedOf numberOf distanceOf ownOf shifted outside targetOf directOf rowOf tableOf page0 page10 page11 isWide isLong numberAt shapeOf highOf directOnly addressOnly registersOf pairOf otherOf registerSize extended pick
+unfolding listingOf linesOf refusalOf runsIn lineOf placeOf decimal lastLine recordsIn lineIn recordOf sound endsLine afterEnd behind countOf addressOf typeOf dataOf digitPair digitOf line body checkOf hexOf runOf runFrom frontOf codedOf joined operandOf indexedAt indexedAs registersAt numberedAt numberedOf numberOf distanceOf ownOf shifted outside targetOf directOf unseen rowOf tableOf page0 page10 page11 isWide isLong numberAt shapeOf highOf directOnly addressOnly registersOf pairOf otherOf registerSize extended pick
 cases = refl

@@ -10,6 +10,8 @@ use Rattle.ground.specs.Refusals.{noRoom}
 use Rattle.records.specs.Text.{Rec}
 use Rattle.reader.specs.Lines.{recordsIn}
 use Rattle.reader.specs.Answers.{sizeOf, runsIn, onto}
+use Rattle.values.specs.declared.pages.Page.the-variants.{Known}
+use Rattle.decoder.specs.declared.Origin.{Origin}
 use Rattle.decoder.specs.declared.Decoded.{Decoded}
 use Rattle.decoder.specs.Origin.{origin}
 use Rattle.decoder.specs.Run.{runOf}
@@ -21,6 +23,10 @@ pub data Lines : Type 0 where
   Instruction : ℕ → List ℕ → Lines → Lines
   End : Lines
   Refused : ℕ → Lines
+
+-- 02 e: "the read-back program uses page 0"
+abbrev pub readFrom : ℕ → Origin
+readFrom address = origin address (Known 0)
 
 -- the lines of a run whose bytes are read as these answers, from an address on, and the lines after it; a refused instruction is the last of all
 abbrev pub inRun : ℕ → List ℕ → List Decoded → Lines → Lines
@@ -34,7 +40,7 @@ inRun address bytes (d ∷ ds) rest =
 -- "Each run is decoded from its own start"
 abbrev pub inRuns : List Rec → Lines
 inRuns [] = End
-inRuns (r ∷ rs) = inRun (r .address) (r .bytes) (runOf (r .bytes) (origin (r .address))) (inRuns rs)
+inRuns (r ∷ rs) = inRun (r .address) (r .bytes) (runOf (r .bytes) (readFrom (r .address))) (inRuns rs)
 
 -- "The program takes at most 65,536 bytes of text, else 9 before all else"; a text that is not read is refused as the reader does
 unfoldable pub refusalOf : List ℕ → ℕ

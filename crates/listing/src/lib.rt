@@ -7,14 +7,14 @@ use lines::put_instruction;
 use lines::put_last;
 use reader::runs::read_run;
 use reader::runs::run_at;
+use values::pages::Page;
 ghost use mathlib.Core.Path.{_≡_};
 ghost use Prim.Native.Nat.{_+_, _*_, _^_, _<_, _≤_};
 ghost use lib.ListN.{length};
 ghost use Rattle.ground.specs.Stores.{Wrote};
 ghost use Rattle.reader.specs.Answers.{runsIn};
-ghost use Rattle.decoder.specs.Origin.{origin};
 ghost use Rattle.decoder.specs.Run.{runOf};
-ghost use Rattle.listing.specs.Listing.{End, inRun, inRuns, refusalOf, linesOf, printed, listingOf, listedOf, bufferOf, Counts};
+ghost use Rattle.listing.specs.Listing.{End, readFrom, inRun, inRuns, refusalOf, linesOf, printed, listingOf, listedOf, bufferOf, Counts};
 ghost use Rattle.listing.specs.Steps.{left, Passed, Ran};
 
 // The answer: 9 and 0 where the listing has no room, or 0 and how long it is. A refusal of the text stands in the listing.
@@ -39,13 +39,13 @@ struct Progress {
 // Writes the lines of a run, up to its end or to the first instruction that is refused.
 fn list_run(bytes: &[u8], address: u16, out: &mut [u8], from: Progress) -> Progress
     requires { ⌜ (address + length (now bytes) ≤ 65536) × (from .at + 8 * length (now bytes) < 2 ^ 32) × (from .count ≤ from .at) ⌝ }
-    ensures { λ r. ⌜ Passed (now (out .entry)) (from .at) (from .count) (inRun address (now (bytes .entry)) (runOf (now (bytes .entry)) (origin address))) (length (now (bytes .entry))) r (now (out .exit)) ⌝ }
+    ensures { λ r. ⌜ Passed (now (out .entry)) (from .at) (from .count) (inRun address (now (bytes .entry)) (runOf (now (bytes .entry)) (readFrom address))) (length (now (bytes .entry))) r (now (out .exit)) ⌝ }
 {
     let mut at = from.at;
     let mut count = from.count;
     let mut place: usize = 0;
     while place < bytes.len() {
-        let read = next_of_run(bytes, address, place);
+        let read = next_of_run(bytes, address, Page::Known(0), place);
         if read.refusal != 0 {
             return Progress {
                 at,

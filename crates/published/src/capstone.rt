@@ -1,9 +1,10 @@
 // What capstone says of five bytes at 0100: BYTES LENGTH OPERATION FAULT, as `A684123400 2 36 -`. Capstone has its own choice among aliases. Where
-// FAULT is not a dash it is known to read what the sheet does not, and the decoder must refuse it.
+// FAULT is not a dash it is known to read what the sheet does not, and the decoder must refuse it. Capstone asks for no page: each known one will do.
 use crate::lines::is_dash;
 use crate::lines::one;
 use crate::lines::two;
 use ground::refusals::UNDEFINED;
+use values::pages::Page;
 ghost use Prim.Native.Nat.{_<_};
 
 pub(crate) const LINE: usize = 18;
@@ -22,7 +23,7 @@ pub(crate) fn differs(line: &[u8]) -> bool {
         byte_of(line, 6),
         byte_of(line, 8),
     ];
-    let decoded = decoder::decode(&bytes, 0x0100);
+    let decoded = decoder::decode(&bytes, 0x0100, Page::Known(0));
     if is_dash(line, 13) | !is_dash(line, 16) {
         return decoded.refusal != UNDEFINED;
     }

@@ -6,6 +6,7 @@ use crate::lines::one;
 use crate::lines::two;
 use decoder::Decoded;
 use ground::refusals::UNDEFINED;
+use values::pages::Page;
 
 pub(crate) const LINE: usize = 16;
 
@@ -27,7 +28,11 @@ pub(crate) fn differs(line: &[u8], first: u8, second: u8) -> bool {
     if 255 < postbyte {
         return true;
     }
-    let decoded = decoder::decode(&[0xA6, postbyte as u8, first, second], 0x0100);
+    let decoded = decoder::decode(
+        &[0xA6, postbyte as u8, first, second],
+        0x0100,
+        Page::Known(0),
+    );
     if decoded.refusal != 0 {
         return !(is_dash(line, 3) & (decoded.refusal == UNDEFINED));
     }

@@ -2,6 +2,7 @@
 // name, as `34 FF 03BB`, with bit n for register n.
 use crate::lines::four;
 use crate::lines::two;
+use values::pages::Page;
 
 pub(crate) const LINE: usize = 11;
 
@@ -15,7 +16,7 @@ pub(crate) fn differs(line: &[u8]) -> bool {
     if 255 < byte {
         return true;
     }
-    let decoded = decoder::decode(&[code as u8, byte as u8], 0x0100);
+    let decoded = decoder::decode(&[code as u8, byte as u8], 0x0100, Page::Known(0));
     let meaning = decoded.meaning;
     let kind = meaning.kind;
     let parts = kind.in_parts();
