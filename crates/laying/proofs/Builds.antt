@@ -26,10 +26,10 @@ fresh-five : (r : Record) (address : ℕ) → Five (freshOf r address .bytes) (f
 unfolding freshOf freshFrom handed
 fresh-five r address =
     let P : Built → Type 0 = λ b. Five (b .bytes) (b .length) in
-    let b = buildOf (makeOf r .instruction) (r .values) (r .dirty) address in
+    let b = buildOf (makeOf r .instruction) (r .values) (r .page) address in
     let nothing : Five (0 ∷ 0 ∷ 0 ∷ 0 ∷ 0 ∷ []) 0 = record { all = refl; most = omega arith; zeros = refl } in
     by-pick P (eqb (makeOf r .refusal) 0)
-    (by-pick P (eqb (b .refusal) 0) (build-five (makeOf r .instruction) (r .values) (r .dirty) address) nothing)
+    (by-pick P (eqb (b .refusal) 0) (build-five (makeOf r .instruction) (r .values) (r .page) address) nothing)
     nothing
 
 pub built-five : (entry : Record) (at : ℕ) → Five (builtAt entry at .bytes) (builtAt entry at .length)

@@ -6,6 +6,7 @@ use Prim.Native.Nat.{ℕ}
 use lib.ListN.{replicate}
 use Rattle.ground.specs.Choice.{pick}
 use Rattle.values.specs.Widths.{bitsOf, extended, validOf, signExtendedOf}
+use Rattle.values.specs.Pages.{isPage, pageNumbered}
 use Rattle.rows.specs.Sheet.{page0, page10, page11, tableOf}
 use Rattle.rows.specs.Lookup.{mergedOf, placed, hasFormOf, knownOf, codeOf}
 use Rattle.rows.specs.Sizes.{isWide, isLong, numberAt, numberSizeOf, longFrom, longOf}
@@ -14,20 +15,20 @@ use Rattle.postbytes.specs.Lists.{anyUnknown, strangeList, among}
 use Rattle.postbytes.specs.Writing.{marked, sizedOf, constantOf, offsetOf, relativeOf}
 use Rattle.instruction.specs.Names.{modeOffset, modePcRelative, modeIncDec, modeExtended, modeInherent}
 use Rattle.instruction.specs.Records.{stepped, recognised, narrower, agreeing, lawful, sound}
-use Rattle.instruction.specs.Forms.{onPage, becomesDirect, extendedForm, registerForm, formOf, strays, lacks, needsValue}
+use Rattle.instruction.specs.Forms.{becomesDirect, extendedForm, registerForm, formOf, strays, lacks, needsValue}
 use Rattle.instruction.specs.Choosing.{inherentOf, anewAs, anewOf, addressOf, longBranch, branchOf, accumulatorIndex, offsetValue, offsetIndex, targetIndex, stepIndex, indexOf, chooseOf}
 use Rattle.instruction.specs.Bytes.{numberBytes, operandBytes, codeSize, behindCode, laidAt, laidOf}
 use Rattle.instruction.specs.Building.{instructionOf, madeAs, makeOf, earlyOf, dirtiesOf, acceptedOf, finishedOf, buildOf, handed, freshFrom, freshOf}
-use Rattle.entries.specs.Entries.{byteIn, isFlag, flagIn, flaggedIn, registersIn, fieldsIn, toldIn, valueIn, valuesIn, allFlagged, entryOf}
+use Rattle.entries.specs.Entries.{byteIn, isFlag, flagIn, isPageIn, pageIn, flaggedIn, registersIn, fieldsIn, toldIn, valueIn, valuesIn, allFlagged, entryOf}
 use Rattle.laying.specs.Entries.{entryAt, rowsIn, entriesFrom, entriesOf}
 use Rattle.laying.specs.Laying.{Outcome, Refused, Bytes, builtAt, refusalAt, layFrom, layOf}
 
 -- ---- rows
--- a row with no step, no forced form, widening allowed, and at most one register: operation, mode, indirect, page dirty, count, register; then whether
+-- a row with no step, no forced form, widening allowed, and at most one register: operation, mode, indirect, page, count, register; then whether
 -- values are given, the unsigned one with its width, the signed one with its width
-abbrev row : (o mode ind dirty count r given u uw s sw : ℕ) → List ℕ
-row o mode ind dirty count r given u uw s sw =
-    o ∷ mode ∷ ind ∷ 0 ∷ 0 ∷ 1 ∷ count ∷ r ∷ 0 ∷ 0 ∷ 0 ∷ 0 ∷ 0 ∷ 0 ∷ 0 ∷ dirty ∷ given ∷ u ∷ uw ∷ s ∷ sw ∷ []
+abbrev row : (o mode ind page count r given u uw s sw : ℕ) → List ℕ
+row o mode ind page count r given u uw s sw =
+    o ∷ mode ∷ ind ∷ 0 ∷ 0 ∷ 1 ∷ count ∷ r ∷ 0 ∷ 0 ∷ 0 ∷ 0 ∷ 0 ∷ 0 ∷ 0 ∷ page ∷ given ∷ u ∷ uw ∷ s ∷ sw ∷ []
 
 -- operations by number (docs/ROWS.md)
 abbrev lda : ℕ
@@ -51,8 +52,8 @@ abbrev short : ℕ → List ℕ
 short target =
     bra ∷ modeExtended ∷ 0 ∷ 0 ∷ 0 ∷ 0 ∷ 0 ∷ 0 ∷ 0 ∷ 0 ∷ 0 ∷ 0 ∷ 0 ∷ 0 ∷ 0 ∷ 0 ∷ 1 ∷ target ∷ 16 ∷ target ∷ 16 ∷ []
 
-abbrev memory : (dirty address : ℕ) → List ℕ
-memory dirty address = row lda modeExtended 0 dirty 0 0 1 address 8 address 16
+abbrev memory : (page address : ℕ) → List ℕ
+memory page address = row lda modeExtended 0 page 0 0 1 address 8 address 16
 
 abbrev nop : List ℕ
 nop = row 124 modeInherent 0 0 0 0 0 0 0 0 0
@@ -68,7 +69,7 @@ joined (l ∷ ls) = l ++ joined ls
 
 -- ---- 01's cases, end to end from 0100
 -- `LDA` t,PCR at 0100 and at 0103 and `BRA` at 0107, 0109, 010C and 010E are as far from their targets as 01's are from 0100
--- then `LDA` 0,X; 15,Y; 8-bit 16,Y; -16,U; 8-bit -17,U; 16-bit 128,S; 8-bit [5,X]; clean `LDA $FF`, dirty `LDA $FF`
+-- then `LDA` 0,X; 15,Y; 8-bit 16,Y; -16,U; 8-bit -17,U; 16-bit 128,S; 8-bit [5,X]; `LDA $FF` under page 0, and with the page unknown
 abbrev all : List ℕ
 all =
     joined
@@ -86,7 +87,7 @@ all =
     ∷ offset S 0 128 8 128 16
     ∷ offset X 1 5 8 5 8
     ∷ memory 0 0xFF
-    ∷ memory 1 0xFF
+    ∷ memory 256 0xFF
     ∷ [])
 
 abbrev all-laid : List ℕ
@@ -171,5 +172,5 @@ answered =
     ∷ []
 
 pub cases : map ask asked ≡ answered
-unfolding pick bitsOf extended validOf signExtendedOf tableOf page0 page10 page11 mergedOf placed hasFormOf knownOf codeOf isWide isLong numberAt numberSizeOf longFrom longOf anyUnknown strangeList among marked sizedOf constantOf offsetOf relativeOf stepped recognised narrower agreeing lawful sound onPage becomesDirect extendedForm registerForm formOf strays lacks needsValue inherentOf anewAs anewOf addressOf longBranch branchOf accumulatorIndex offsetValue offsetIndex targetIndex stepIndex indexOf chooseOf numberBytes operandBytes codeSize behindCode laidAt laidOf instructionOf madeAs makeOf earlyOf dirtiesOf acceptedOf finishedOf buildOf handed freshFrom freshOf byteIn isFlag flagIn flaggedIn registersIn fieldsIn toldIn valueIn valuesIn allFlagged entryOf entryAt rowsIn entriesFrom entriesOf builtAt refusalAt layFrom layOf
+unfolding pick bitsOf extended validOf signExtendedOf isPage pageNumbered tableOf page0 page10 page11 mergedOf placed hasFormOf knownOf codeOf isWide isLong numberAt numberSizeOf longFrom longOf anyUnknown strangeList among marked sizedOf constantOf offsetOf relativeOf stepped recognised narrower agreeing lawful sound becomesDirect extendedForm registerForm formOf strays lacks needsValue inherentOf anewAs anewOf addressOf longBranch branchOf accumulatorIndex offsetValue offsetIndex targetIndex stepIndex indexOf chooseOf numberBytes operandBytes codeSize behindCode laidAt laidOf instructionOf madeAs makeOf earlyOf dirtiesOf acceptedOf finishedOf buildOf handed freshFrom freshOf byteIn isFlag flagIn isPageIn pageIn flaggedIn registersIn fieldsIn toldIn valueIn valuesIn allFlagged entryOf entryAt rowsIn entriesFrom entriesOf builtAt refusalAt layFrom layOf
 cases = refl

@@ -11,12 +11,15 @@ use Rattle.ground.specs.Choice.{pick}
 use Rattle.ground.specs.Words.{plus, minus}
 use Rattle.ground.proofs.Choices.{by-test, by-pick}
 use Rattle.values.specs.Widths.{bitsOf, extended, signExtendedOf}
+use Rattle.values.specs.declared.pages.Page.{Page}
+use Rattle.values.specs.Pages.{reaches}
 use Rattle.rows.specs.Forms as forms
 use Rattle.rows.specs.Sizes.{numberSizeOf}
 use Rattle.postbytes.specs.Registers.{PC, notIndexing, notAccumulator}
 use Rattle.postbytes.specs.Writing.{nearOf}
 use Rattle.decoder.specs.declared.Kind.{Kind}
 use Rattle.decoder.specs.declared.Kind.the-variants.{Offset, Counter, Accumulator, Step}
+use Rattle.decoder.specs.declared.Origin.{Origin}
 use Rattle.decoder.specs.Origin.{targetOf}
 use Rattle.instruction.specs.declared.Values.{Values}
 use Rattle.instruction.specs.declared.Instruction.{Instruction}
@@ -42,10 +45,10 @@ unfolding pick
 alongside P true x y = x
 alongside P false x y = y
 
-module _ (i : Instruction) (v : Values) (end : ℕ) where
+module _ (i : Instruction) (v : Values) (end : Origin) where
   -- a choice that is not refused says what the record says in its form
   abbrev Means : Chosen → Type 0
-  Means c = c .refusal ≡ 0 → argumentKind (i .operand) (c .form) (c .argument) end ≡ kindOf (c .form) (i .operand) v end
+  Means c = c .refusal ≡ 0 → argumentKind (i .operand) (c .form) (c .argument) end ≡ kindOf (c .form) (i .operand) v (end .address)
 
   inherent-means : Means (inherentOf i v)
   unfolding inherentOf kindOf pick
@@ -57,17 +60,17 @@ module _ (i : Instruction) (v : Values) (end : ℕ) where
       by-pick Means (eqb (numberSizeOf (i .operand .operation) forms.immediate) 1 && ltb 255 (v .unsigned .number))
       (λ z. absurd (omega arith)) (λ _. refl)
 
-  address-means : (dirty : Bool) → Means (addressOf i v dirty)
+  address-means : (page : Page) → Means (addressOf i v page)
   unfolding addressOf directlyOf staysDirect leavesDirect anewOf anewAs kindOf pick
-  address-means dirty =
+  address-means page =
       by-pick Means (eqb (i .operand .mode) modeDirect)
-      (by-pick Means (becomesDirect (i .operand) v dirty) (λ _. refl)
+      (by-pick Means (becomesDirect (i .operand) v page) (λ _. refl)
       (by-pick Means (eqb (i .form) forms.direct)
-      (by-pick Means (dirty || ltb 255 (v .unsigned .number))
-      (by-pick Means (i .trial) (λ _. refl) (λ z. absurd (omega arith)))
-      (by-pick Means (forcedWide i v) (λ z. absurd (omega arith)) (λ _. refl)))
+      (by-pick Means (reaches page (v .unsigned .number))
+      (by-pick Means (forcedWide i v page) (λ z. absurd (omega arith)) (λ _. refl))
+      (by-pick Means (i .trial) (λ _. refl) (λ z. absurd (omega arith))))
       (λ _. refl)))
-      (by-pick (λ (form : ℕ). Means (anewAs i v form)) (becomesDirect (i .operand) v dirty) (λ _. refl) (λ _. refl))
+      (by-pick (λ (form : ℕ). Means (anewAs i v form)) (becomesDirect (i .operand) v page) (λ _. refl) (λ _. refl))
 
   branch-means : (address : ℕ) → Means (branchOf i v address)
   unfolding branchOf longBranch kindOf pick
@@ -89,13 +92,13 @@ module _ (i : Instruction) (v : Values) (end : ℕ) where
       (not (eqb (o .count) 2) || (notAccumulator (first o) || notIndexing (second o)))
       (λ z. absurd (omega arith)) (λ _. (refl, refl))
 
-  offset-says : Says (offsetKind (i .operand) v end) (offsetIndex i v)
+  offset-says : Says (offsetKind (i .operand) v (end .address)) (offsetIndex i v)
   unfolding offsetIndex offsetKind targetOf
   offset-says =
       let o = i .operand in
-      by-pick (Says (offsetKind o v end)) (not (eqb (o .count) 1)) (λ z. absurd (omega arith))
+      by-pick (Says (offsetKind o v (end .address))) (not (eqb (o .count) 1)) (λ z. absurd (omega arith))
       (alongside Says (eqb (first o) PC)
-      (λ _. (refl, ap (λ (n : ℕ). Counter (o .indirect) (plus end n)) (offset-reads v)))
+      (λ _. (refl, ap (λ (n : ℕ). Counter (o .indirect) (plus (end .address) n)) (offset-reads v)))
       (by-pick (Says (Offset (first o) (o .indirect) (offsetIn v))) (notIndexing (first o)) (λ z. absurd (omega arith))
       (λ _. (refl, ap (Offset (first o) (o .indirect)) (offset-reads v)))))
 
@@ -114,7 +117,7 @@ module _ (i : Instruction) (v : Values) (end : ℕ) where
       by-pick P (o .indirect && (eqb (o .step) 1 || eqb (o .step) 3)) (λ z. absurd (omega arith))
       (by-pick P (not (eqb (o .count) 1) || notIndexing (first o)) (λ z. absurd (omega arith)) (λ _. (refl, refl)))
 
-  index-says : Says (indexKind (i .operand) v end) (indexOf i v)
+  index-says : Says (indexKind (i .operand) v (end .address)) (indexOf i v)
   unfolding indexOf addressIndex indexKind
   index-says =
       let mode = i .operand .mode in
@@ -127,7 +130,7 @@ module _ (i : Instruction) (v : Values) (end : ℕ) where
   unfolding kindOf pick
   index-means z =
       let s = index-says z in
-      s .1 ∙ sym (ap (λ (form : ℕ). kindOf form (i .operand) v end) (s .0))
+      s .1 ∙ sym (ap (λ (form : ℕ). kindOf form (i .operand) v (end .address)) (s .0))
 
   registers-means : Means (registersOf i)
   unfolding registersOf kindOf pick
@@ -137,15 +140,15 @@ module _ (i : Instruction) (v : Values) (end : ℕ) where
 
 -- every form
 pub choose-means :
-    (i : Instruction) (v : Values) (dirty : Bool) (address end : ℕ) →
-    chooseOf i v dirty address .refusal ≡ 0 →
-    argumentKind (i .operand) (chooseOf i v dirty address .form) (chooseOf i v dirty address .argument) end
-    ≡ kindOf (chooseOf i v dirty address .form) (i .operand) v end
+    (i : Instruction) (v : Values) (page : Page) (address : ℕ) (end : Origin) →
+    chooseOf i v page address .refusal ≡ 0 →
+    argumentKind (i .operand) (chooseOf i v page address .form) (chooseOf i v page address .argument) end
+    ≡ kindOf (chooseOf i v page address .form) (i .operand) v (end .address)
 unfolding chooseOf
-choose-means i v dirty address end =
+choose-means i v page address end =
     let P = Means i v end in
     by-pick P (eqb (i .form) forms.inherent) (inherent-means i v end)
     (by-pick P (eqb (i .form) forms.immediate) (immediate-means i v end)
-    (by-pick P (eqb (i .form) forms.direct || eqb (i .form) forms.extended) (address-means i v end dirty)
+    (by-pick P (eqb (i .form) forms.direct || eqb (i .form) forms.extended) (address-means i v end page)
     (by-pick P (eqb (i .form) forms.indexed) (index-means i v end)
     (by-pick P (eqb (i .form) forms.relative) (branch-means i v end address) (registers-means i v end)))))

@@ -14,6 +14,9 @@ use borrow.Author.Tests.{eqb-true, eqb-false}
 use Rattle.ground.specs.Choice.{pick}
 use Rattle.ground.specs.Words.{plus}
 use Rattle.ground.proofs.Choices.{by-test, by-pick}
+use Rattle.values.specs.declared.pages.Page.{Page}
+use Rattle.values.specs.Pages.{meets}
+use Rattle.values.proofs.Reached.{meets-same}
 use Rattle.rows.specs.declared.Coded.the-variants.{Code}
 use Rattle.rows.specs.Forms.{relative, register}
 use Rattle.rows.specs.Lookup.{mergedOf, codeOf}
@@ -80,13 +83,13 @@ behind page code {e} p = go (eqb page 0)
     }
 
 -- with room up to 65535, decoding reads the front
-there : (v : Values) (address : ℕ) (b : Built) → ReadsBack v address b → Decodes v address b
-there v address b d z t h = decode-room (bytesIn b ++ t) (origin address) h ∙ d z t
+there : (page : Page) (v : Values) (address : ℕ) (b : Built) → ReadsBack page v address b → Decodes page v address b
+there page v address b d z t h = decode-room (bytesIn b ++ t) (origin address page) h ∙ d z t
 
--- ---- an accepted choice
-module _ (i : Instruction) (v : Values) (dirty : Bool) (address : ℕ) (z : chooseOf i v dirty address .refusal ≡ 0) (fits : Fits (i .operand) address (chooseOf i v dirty address)) where
+-- ---- an accepted choice, under its own page
+module _ (i : Instruction) (v : Values) (own : Page) (address : ℕ) (z : chooseOf i v own address .refusal ≡ 0) (fits : Fits (i .operand) own address (chooseOf i v own address)) where
   abbrev c : Chosen
-  c = chooseOf i v dirty address
+  c = chooseOf i v own address
 
   -- a list of registers stands in a row of its own operation
   same-operation : c .form ≡ register → i .operand .operation ≡ c .operation
@@ -102,9 +105,11 @@ module _ (i : Instruction) (v : Values) (dirty : Bool) (address : ℕ) (z : choo
       let q : p ≡ 0x00 = short-page (c .operation) p k (subst (λ (f : ℕ). codeOf (c .operation) f ≡ Code p k) d e) s in
       rw q
 
-  accepted-decodes : (t : List ℕ) → frontOf (bytesIn (acceptedOf i c address) ++ t) (origin address) ≡ readAs v address (acceptedOf i c address)
+  accepted-decodes :
+      (page : Page) → meets page own ≡ true → (t : List ℕ) →
+      frontOf (bytesIn (acceptedOf i c address) ++ t) (origin address page) ≡ readAs v address (acceptedOf i c address)
   unfolding acceptedOf laidOf laidAt meaningOf operationOf joined codeSize pick
-  accepted-decodes t =
+  accepted-decodes page met t =
       let o = c .operation in
       let k = has-code o (c .form) (fits .row) in
       let n = codeSize (k .page) in
@@ -114,38 +119,43 @@ module _ (i : Instruction) (v : Values) (dirty : Bool) (address : ℕ) (z : choo
       let bytes : bytesIn (acceptedOf i c address) ≡ codeBytes (k .page) (k .code) ++ written e =
       ap (λ (l : Laid). take (l .length) (l .bytes)) laid ∙ b .bytes in
       let total : n + e .length ≡ laidOf c address .length = sym (ap (λ (l : Laid). l .length) laid ∙ b .total) in
-      ap (λ (l : List ℕ). frontOf (l ++ t) (origin address)) bytes
-      ∙ ap (λ (l : List ℕ). frontOf l (origin address)) (append-assoc (codeBytes (k .page) (k .code)) (written e) t)
-      ∙ front-code o (c .form) (k .code) (origin address) (written e ++ t) (k .page) (k .coded)
+      ap (λ (l : List ℕ). frontOf (l ++ t) (origin address page)) bytes
+      ∙ ap (λ (l : List ℕ). frontOf l (origin address page)) (append-assoc (codeBytes (k .page) (k .code)) (written e) t)
+      ∙ front-code o (c .form) (k .code) (origin address page) (written e ++ t) (k .page) (k .coded)
       ∙ ap (joined n (mergedOf o))
-      (operand-back (i .operand) address n o (k .page) (k .code) t (c .form) (k .coded) same-operation (short-code (k .page) (k .code) (k .coded)) (c .argument) (fits .argument))
-      ∙ ap (answer (n + e .length) (mergedOf o)) (choose-means i v dirty address (plus address (n + e .length)) z)
+      (operand-back (i .operand) page address n o (k .page) (k .code) t own met (c .form) (k .coded) same-operation (short-code (k .page) (k .code) (k .coded)) (c .argument) (fits .argument))
+      ∙ ap (answer (n + e .length) (mergedOf o)) (choose-means i v own address (origin (plus address (n + e .length)) page) z)
       ∙ ap (λ (m : ℕ). answer (n + e .length) m (kindOf (c .form) (i .operand) v (plus address (n + e .length)))) (fits .named)
       ∙ ap (λ (m : ℕ). answer m (operationOf (acceptedOf i c address .instruction)) (kindOf (c .form) (i .operand) v (plus address m))) total
 
 -- ---- every build
-module _ (i : Instruction) (v : Values) (dirty : Bool) (address : ℕ) where
-  pub built-decodes : ReadsBack v address (buildOf i v dirty address)
-  built-decodes z t =
-      let k = build-chosen i v dirty address z in
-      subst (λ (b : Built). frontOf (bytesIn b ++ t) (origin address) ≡ readAs v address b) (sym (k .built))
-      (accepted-decodes i v dirty address (k .chosen) (k .fits) t)
+module _ (i : Instruction) (v : Values) (own : Page) (address : ℕ) where
+  -- under a page that meets its own
+  pub built-decodes : (page : Page) → meets page own ≡ true → ReadsBack page v address (buildOf i v own address)
+  built-decodes page met z t =
+      let k = build-chosen i v own address z in
+      subst (λ (b : Built). frontOf (bytesIn b ++ t) (origin address page) ≡ readAs v address b) (sym (k .built))
+      (accepted-decodes i v own address (k .chosen) (k .fits) page met t)
 
-  pub built-decodes-there : Decodes v address (buildOf i v dirty address)
-  built-decodes-there = there v address (buildOf i v dirty address) built-decodes
+  pub built-decodes-there : (page : Page) → meets page own ≡ true → Decodes page v address (buildOf i v own address)
+  built-decodes-there page met = there page v address (buildOf i v own address) (built-decodes page met)
+
+  -- and so under the page it was built under, for every page
+  pub own-decodes : ReadsBack own v address (buildOf i v own address)
+  own-decodes = built-decodes own (meets-same own)
 
   -- the meaning is that of the instruction's own operand, which a build hands back as it was
-  pub built-operand : buildOf i v dirty address .instruction .operand ≡ i .operand
-  built-operand = ap (λ (b : Built). b .instruction .operand) (sym (with-outcome i v dirty address))
+  pub built-operand : buildOf i v own address .instruction .operand ≡ i .operand
+  built-operand = ap (λ (b : Built). b .instruction .operand) (sym (with-outcome i v own address))
 
-  pub built-sized : buildOf i v dirty address .refusal ≡ 0 → Sized (buildOf i v dirty address)
+  pub built-sized : buildOf i v own address .refusal ≡ 0 → Sized (buildOf i v own address)
   built-sized z =
-      let b = buildOf i v dirty address in
-      let five = build-five i v dirty address in
+      let b = buildOf i v own address in
+      let five = build-five i v own address in
       let all = five .all in
       let most = five .most in
-      let e = built-decodes z [] in
-      let w = front-whole (bytesIn b ++ []) (origin address) (ap (λ (d : Decoded). d .refusal) e) in
+      let e = own-decodes z [] in
+      let w = front-whole (bytesIn b ++ []) (origin address own) (ap (λ (d : Decoded). d .refusal) e) in
       record {
         bytes = length-take-le (b .length) (b .bytes) (omega arith);
         some = subst (λ (n : ℕ). 1 ≤ n) (ap (λ (d : Decoded). d .length) e) (w .some);
@@ -155,7 +165,7 @@ module _ (i : Instruction) (v : Values) (dirty : Bool) (address : ℕ) where
 -- ---- every fresh build
 module _ (r : Record) (address : ℕ) where
   abbrev built : Built
-  built = buildOf (makeOf r .instruction) (r .values) (r .dirty) address
+  built = buildOf (makeOf r .instruction) (r .values) (r .page) address
 
   -- an accepted one is that of the instruction made
   fresh-built : freshOf r address .refusal ≡ 0 → (makeOf r .refusal ≡ 0) × (freshOf r address ≡ built)
@@ -172,23 +182,26 @@ module _ (r : Record) (address : ℕ) where
       let e = fresh-built z .1 in
       subst P (sym e) (h (sym (ap (λ (b : Built). b .refusal) e) ∙ z))
 
-  pub fresh-decodes : ReadsBack (r .values) address (freshOf r address)
-  fresh-decodes =
-      of-fresh (λ (b : Built). (t : List ℕ) → frontOf (bytesIn b ++ t) (origin address) ≡ readAs (r .values) address b)
-      (built-decodes (makeOf r .instruction) (r .values) (r .dirty) address)
+  pub fresh-decodes : (page : Page) → meets page (r .page) ≡ true → ReadsBack page (r .values) address (freshOf r address)
+  fresh-decodes page met =
+      of-fresh (λ (b : Built). (t : List ℕ) → frontOf (bytesIn b ++ t) (origin address page) ≡ readAs (r .values) address b)
+      (built-decodes (makeOf r .instruction) (r .values) (r .page) address page met)
 
-  pub fresh-decodes-there : Decodes (r .values) address (freshOf r address)
-  fresh-decodes-there = there (r .values) address (freshOf r address) fresh-decodes
+  pub fresh-decodes-there : (page : Page) → meets page (r .page) ≡ true → Decodes page (r .values) address (freshOf r address)
+  fresh-decodes-there page met = there page (r .values) address (freshOf r address) (fresh-decodes page met)
+
+  pub own-fresh-decodes : ReadsBack (r .page) (r .values) address (freshOf r address)
+  own-fresh-decodes = fresh-decodes (r .page) (meets-same (r .page))
 
   pub fresh-sized : freshOf r address .refusal ≡ 0 → Sized (freshOf r address)
-  fresh-sized = of-fresh Sized (built-sized (makeOf r .instruction) (r .values) (r .dirty) address)
+  fresh-sized = of-fresh Sized (built-sized (makeOf r .instruction) (r .values) (r .page) address)
 
   made-operand : makeOf r .refusal ≡ 0 → makeOf r .instruction .operand ≡ r .operand
   unfolding makeOf madeAs instructionOf
   made-operand =
       let P : Made → Type 0 = λ m. m .refusal ≡ 0 → m .instruction .operand ≡ r .operand in
       by-pick P (recognised (r .operand) && lawful (r .values))
-      (by-pick P (lacks (r .operand) (formOf (r .operand) (r .values) (r .dirty))) (λ z. absurd (omega arith)) (λ _. refl))
+      (by-pick P (lacks (r .operand) (formOf (r .operand) (r .values) (r .page))) (λ z. absurd (omega arith)) (λ _. refl))
       (λ z. absurd (omega arith))
 
   -- the meaning is that of the record's own operand
@@ -196,5 +209,5 @@ module _ (r : Record) (address : ℕ) where
   fresh-operand z =
       let f = fresh-built z in
       ap (λ (b : Built). b .instruction .operand) (f .1)
-      ∙ built-operand (makeOf r .instruction) (r .values) (r .dirty) address
+      ∙ built-operand (makeOf r .instruction) (r .values) (r .page) address
       ∙ made-operand (f .0)

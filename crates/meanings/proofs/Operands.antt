@@ -12,6 +12,9 @@ use lib.ListN.{take}
 use Rattle.ground.specs.Choice.{pick}
 use Rattle.ground.specs.Words.{plus, minus}
 use Rattle.ground.proofs.Ranges.{both-left, both-right, upto, below}
+use Rattle.values.specs.declared.pages.Page.{Page}
+use Rattle.values.specs.Pages.{reaches, meets}
+use Rattle.values.proofs.Reached.{meets-on}
 use Rattle.rows.specs.declared.Coded.the-variants.{Code}
 use Rattle.rows.specs.Forms.{inherent, immediate, direct, indexed, extended, relative, register}
 use Rattle.rows.specs.Sheet.{tableOf, page0, page10, page11}
@@ -42,11 +45,11 @@ use Rattle.instruction.proofs.Rows.{operation-small}
 use Rattle.meanings.specs.Means.{first, second, listKind}
 
 -- what an argument says in a form, of an instruction that ends there
-abbrev pub argumentKind : Operand → ℕ → Argument → ℕ → Kind
+abbrev pub argumentKind : Operand → ℕ → Argument → Origin → Kind
 argumentKind operand form Nothing end = Inherent
 argumentKind operand form (Number n) end = pick (eqb form immediate) (Immediate n) (Memory n)
 argumentKind operand form (Target t) end = Branch t
-argumentKind operand form (Indexed i) end = resolved (index.meaningOf i) (origin end)
+argumentKind operand form (Indexed i) end = resolved (index.meaningOf i) end
 argumentKind operand form (Relative t ind) end = Counter ind t
 argumentKind operand form (Registers b) end = listKind operand
 
@@ -81,37 +84,31 @@ list-row o h =
     }
 
 -- ---- each argument
-module _ (operand : Operand) (address size o p c : ℕ) (t : List ℕ) where
+module _ (operand : Operand) (page : Page) (address size o p c : ℕ) (t : List ℕ) where
   -- an operation o in a form, the code of which has so many bytes
   abbrev Back : ℕ → Argument → Type 0
   Back form a =
-      operandOf (mergedOf o) form (numberSizeOf o form) (restOf (written (operandBytes o form a (plus address size)) ++ t)) (shifted (origin address) size)
+      operandOf (mergedOf o) form (numberSizeOf o form) (restOf (written (operandBytes o form a (plus address size)) ++ t)) (shifted (origin address page) size)
       ≡ reading (operandBytes o form a (plus address size) .length)
-      (argumentKind operand form a (plus address (size + operandBytes o form a (plus address size) .length)))
+      (argumentKind operand form a (origin (plus address (size + operandBytes o form a (plus address size) .length)) page))
 
   abbrev after : Origin
-  after = shifted (origin address) size
-
-  -- where one byte is all that follows, the number has 8 bits
-  abbrev OneByte : ℕ → ℕ → Type 0
-  OneByte n form = numberSizeOf o form ≡ 1 → n < 256
+  after = shifted (origin address page) size
 
   nothing-back : codeOf o inherent ≡ Code p c → Back inherent Nothing
   unfolding operandBytes numberBytes pick
   nothing-back e = rw (back.size-inherent o p c e) (back.inherent-back (mergedOf o) after t)
 
-  immediate-back : codeOf o immediate ≡ Code p c → (n : ℕ) → OneByte n immediate → Back immediate (Number n)
+  immediate-back : codeOf o immediate ≡ Code p c → (n : ℕ) → (numberSizeOf o immediate ≡ 1 → n < 256) → Back immediate (Number n)
   unfolding operandBytes pick
   immediate-back e n h =
       let s = back.size-immediate o p c e in
       let w = number-written (numberSizeOf o immediate) n (s .0) (s .1) in
       rw (w .0, w .1) (back.immediate-back (mergedOf o) after t (numberSizeOf o immediate) n (s .0) (s .1) h)
 
-  direct-back : codeOf o direct ≡ Code p c → (n : ℕ) → OneByte n direct → Back direct (Number n)
-  unfolding operandBytes numberBytes pick
-  direct-back e n h =
-      let s = back.size-direct o p c e in
-      rw s (back.direct-back (mergedOf o) after t n (h s))
+  direct-back : codeOf o direct ≡ Code p c → (n : ℕ) → reaches page n ≡ true → Back direct (Number n)
+  unfolding operandBytes numberBytes shifted pick
+  direct-back e n h = rw (back.size-direct o p c e) (back.direct-back (mergedOf o) after t n h)
 
   extended-back : codeOf o extended ≡ Code p c → (n : ℕ) → Back extended (Number n)
   unfolding operandBytes numberBytes pick
@@ -135,9 +132,9 @@ module _ (operand : Operand) (address size o p c : ℕ) (t : List ℕ) where
       (λ d. subst (λ (m : ℕ). nearOf (minus target m) ≡ true) (same d) (near d)))
 
   -- the end of the instruction
-  ends : (n : ℕ) → shifted after n ≡ origin (plus address (size + n))
+  ends : (n : ℕ) → shifted after n ≡ origin (plus address (size + n)) page
   unfolding shifted
-  ends n = shift-shift (origin address) size n
+  ends n = shift-shift (origin address page) size n
 
   indexed-back : (i : Index) → encodeOf i .refusal ≡ 0 → Back indexed (Indexed i)
   unfolding operandBytes
@@ -148,7 +145,7 @@ module _ (operand : Operand) (address size o p c : ℕ) (t : List ℕ) where
   counter-back : (target : ℕ) (ind : Bool) → target < 65536 → Back indexed (Relative target ind)
   unfolding operandBytes shifted
   counter-back target ind h =
-      back.counter-back (mergedOf o) after t target (numberSizeOf o indexed) ind h (shifted-small (origin address) size)
+      back.counter-back (mergedOf o) after t target (numberSizeOf o indexed) ind h (shifted-small (origin address page) size)
 
   -- a pair, or the list of a push
   abbrev listed : Bool → Listed
@@ -172,17 +169,18 @@ module _ (operand : Operand) (address size o p c : ℕ) (t : List ℕ) where
           back.push-list-back o after t (ownStack o) (operand .registers) (operand .count) (numberSizeOf o register) q (row .own q) z
 
   -- ---- all of them
-  module _ (form : ℕ) (e : codeOf o form ≡ Code p c) where
+  -- built under a page that the reader's meets
+  module _ (own : Page) (met : meets page own ≡ true) (form : ℕ) (e : codeOf o form ≡ Code p c) where
     -- what holds of a form by its name holds of it
     named : (f : ℕ) (a : Argument) → form ≡ f → (codeOf o f ≡ Code p c → Back f a) → Back form a
     named f a d b = subst (λ (g : ℕ). Back g a) (sym d) (b (subst (λ (g : ℕ). codeOf o g ≡ Code p c) d e))
 
-    number-back : (n : ℕ) → NumberFits o form n → Back form (Number n)
+    number-back : (n : ℕ) → NumberFits own o form n → Back form (Number n)
     number-back n h =
         ⊎-elim
-        (λ (d : form ≡ immediate). named immediate (Number n) d (λ k. immediate-back k n (subst (OneByte n) d (h .byte))))
+        (λ (d : form ≡ immediate). named immediate (Number n) d (λ k. immediate-back k n (subst (λ (f : ℕ). numberSizeOf o f ≡ 1 → n < 256) d (h .byte d))))
         (⊎-elim
-        (λ (d : form ≡ direct). named direct (Number n) d (λ k. direct-back k n (subst (OneByte n) d (h .byte))))
+        (λ (d : form ≡ direct). named direct (Number n) d (λ k. direct-back k n (meets-on page own met n (h .paged d))))
         (λ (d : form ≡ extended). named extended (Number n) d (λ k. extended-back k n)))
         (h .formed)
 
@@ -190,7 +188,7 @@ module _ (operand : Operand) (address size o p c : ℕ) (t : List ℕ) where
         (form ≡ register → operand .operation ≡ o) →
         (form ≡ relative → numberSizeOf o relative ≡ 1 → size ≡ 1) →
         (a : Argument) →
-        ArgumentFits operand address o form a →
+        ArgumentFits operand own address o form a →
         Back form a
     operand-back same one Nothing h = named inherent Nothing h nothing-back
     operand-back same one (Number n) h = number-back n h
