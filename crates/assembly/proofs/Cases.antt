@@ -23,7 +23,7 @@ use Rattle.passes.specs.Walks.{Source, source, marksOf, markedLabels, markedSta
 use Rattle.passes.specs.Passes.{afterOf, settleOf, passedOf, overfullIn, tooMany, endedOf}
 use Rattle.passes.specs.Passes as passes
 use Rattle.assembly.specs.declared.Hexed.{Hexed}
-use Rattle.assembly.specs.Objects.{objectRow, valuesBuilt, standsAt, objectBuilt, addressAt, dirtyAt, objectIn, valuesIn, gather, objectsOf, valuesOf}
+use Rattle.assembly.specs.Objects.{objectRow, valuesBuilt, standsAt, objectBuilt, addressAt, pageAt, objectIn, valuesIn, gather, objectsOf, valuesOf}
 use Rattle.assembly.specs.Answers.{fitting, refusalOf, labelled}
 use Rattle.assembly.specs.Text.{settledText, hexRefusal, unwritten, hexedOf}
 
@@ -56,7 +56,7 @@ answered =
 
 -- 9 for each want of room, with the passes made
 pub rooms : map ask asked ≡ answered
-unfolding pick holdsOf inserted segments.refusalOf addedTo tableAfter firstOf joined rowAt labelRow nodeIn labelIn nodeValue labelValue narrowOf valueOf answerOf evaluation hexOf checkOf body line bytesOf countOf objectOf recs textOf placeOf earlier numberAt itemAt statementOf statementAt entryAt overfullAt wantedOf characterOf answersFrom ownLabel numberRefusal originEffect dataRefusal effectAt countedOf valuesAt firstBearer bearerOf illOf begunState begunRows begunTable laidOver marksOf markedLabels markedState effectIn sizedState firstRefusal judged originState advancedState advancedStarts markOf resizeOf advanceOf doneOf stepOf walkOf walkTo passes.answerOf afterOf settleOf passedOf overfullIn tooMany endedOf objectRow valuesBuilt standsAt objectBuilt addressAt dirtyAt objectIn valuesIn gather objectsOf valuesOf labelFits labelsFit fitting refusalOf labelled settledText hexRefusal hexedOf
+unfolding pick holdsOf inserted segments.refusalOf addedTo tableAfter firstOf joined rowAt labelRow nodeIn labelIn nodeValue labelValue narrowOf valueOf answerOf evaluation hexOf checkOf body line bytesOf countOf objectOf recs textOf placeOf earlier numberAt itemAt statementOf statementAt entryAt overfullAt wantedOf characterOf answersFrom ownLabel numberRefusal originEffect dataRefusal effectAt countedOf valuesAt firstBearer bearerOf illOf begunState begunRows begunTable laidOver marksOf markedLabels markedState effectIn sizedState firstRefusal judged originState advancedState advancedStarts markOf resizeOf advanceOf doneOf stepOf walkOf walkTo passes.answerOf afterOf settleOf passedOf overfullIn tooMany endedOf objectRow valuesBuilt standsAt objectBuilt addressAt pageAt objectIn valuesIn gather objectsOf valuesOf labelFits labelsFit fitting refusalOf labelled settledText hexRefusal hexedOf
 rooms = refl
 
 -- `:0201000041427A` and the end record; an object without data for the ORG where it moves to and one for the FCC; the label's address
@@ -66,11 +66,11 @@ pub written :
     × (objectsOf program labels ≡ 0 ∷ 0x100 ∷ 0 ∷ 1 ∷ 0x100 ∷ 2 ∷ [])
     × (valuesOf program labels ≡ 65 ∷ 8 ∷ 66 ∷ 8 ∷ [])
     × (labelled 0 program labels ≡ 1 ∷ 0x100 ∷ 0 ∷ [])
-unfolding pick holdsOf inserted segments.refusalOf addedTo tableAfter firstOf joined rowAt labelRow nodeIn labelIn nodeValue labelValue narrowOf valueOf answerOf evaluation hexOf checkOf body line bytesOf countOf objectOf recs textOf placeOf earlier numberAt itemAt statementOf statementAt entryAt overfullAt wantedOf characterOf answersFrom ownLabel numberRefusal originEffect dataRefusal effectAt countedOf valuesAt firstBearer bearerOf illOf begunState begunRows begunTable laidOver marksOf markedLabels markedState effectIn sizedState firstRefusal judged originState advancedState advancedStarts markOf resizeOf advanceOf doneOf stepOf walkOf walkTo passes.answerOf afterOf settleOf passedOf overfullIn tooMany endedOf objectRow valuesBuilt standsAt objectBuilt addressAt dirtyAt objectIn valuesIn gather objectsOf valuesOf labelFits labelsFit fitting refusalOf labelled settledText hexRefusal hexedOf
+unfolding pick holdsOf inserted segments.refusalOf addedTo tableAfter firstOf joined rowAt labelRow nodeIn labelIn nodeValue labelValue narrowOf valueOf answerOf evaluation hexOf checkOf body line bytesOf countOf objectOf recs textOf placeOf earlier numberAt itemAt statementOf statementAt entryAt overfullAt wantedOf characterOf answersFrom ownLabel numberRefusal originEffect dataRefusal effectAt countedOf valuesAt firstBearer bearerOf illOf begunState begunRows begunTable laidOver marksOf markedLabels markedState effectIn sizedState firstRefusal judged originState advancedState advancedStarts markOf resizeOf advanceOf doneOf stepOf walkOf walkTo passes.answerOf afterOf settleOf passedOf overfullIn tooMany endedOf objectRow valuesBuilt standsAt objectBuilt addressAt pageAt objectIn valuesIn gather objectsOf valuesOf labelFits labelsFit fitting refusalOf labelled settledText hexRefusal hexedOf
 written = (refl, refl, refl, refl)
 
 -- ORG $100 and ORG *+$10: the location counts as 0 in an ORG's operand, so the second moves to 0010, and its object stands there
 pub origins :
     objectsOf (source (org 0 ++ org 3) [] (0 ∷ 0x100 ∷ 0 ∷ 2 ∷ 0 ∷ 0 ∷ 0 ∷ 0x10 ∷ 0 ∷ 4 ∷ 1 ∷ 2 ∷ [])) [] ≡ 0 ∷ 0x100 ∷ 0 ∷ 0 ∷ 0x10 ∷ 0 ∷ []
-unfolding pick holdsOf inserted segments.refusalOf addedTo tableAfter firstOf joined rowAt labelRow nodeIn labelIn nodeValue labelValue narrowOf valueOf answerOf evaluation placeOf earlier numberAt statementOf statementAt entryAt overfullAt wantedOf ownLabel numberRefusal originEffect effectAt countedOf valuesAt firstBearer bearerOf illOf begunState begunRows begunTable marksOf markedLabels markedState effectIn sizedState firstRefusal judged originState advancedState advancedStarts markOf resizeOf advanceOf doneOf stepOf walkOf walkTo passes.answerOf afterOf settleOf passedOf overfullIn tooMany endedOf objectRow valuesBuilt standsAt objectBuilt addressAt dirtyAt objectIn gather objectsOf
+unfolding pick holdsOf inserted segments.refusalOf addedTo tableAfter firstOf joined rowAt labelRow nodeIn labelIn nodeValue labelValue narrowOf valueOf answerOf evaluation placeOf earlier numberAt statementOf statementAt entryAt overfullAt wantedOf ownLabel numberRefusal originEffect effectAt countedOf valuesAt firstBearer bearerOf illOf begunState begunRows begunTable marksOf markedLabels markedState effectIn sizedState firstRefusal judged originState advancedState advancedStarts markOf resizeOf advanceOf doneOf stepOf walkOf walkTo passes.answerOf afterOf settleOf passedOf overfullIn tooMany endedOf objectRow valuesBuilt standsAt objectBuilt addressAt pageAt objectIn gather objectsOf
 origins = refl

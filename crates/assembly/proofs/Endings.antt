@@ -14,6 +14,7 @@ use Rattle.ground.specs.Stores.{put}
 use Rattle.ground.proofs.Choices.{by-test, pick-true, pick-false}
 use Rattle.ground.proofs.Tests.{neither-left, both-first, both-second}
 use Rattle.ground.proofs.Stores.{put-front}
+use Rattle.values.specs.declared.pages.Page.{Page}
 use Rattle.passes.specs.declared.Ended.{Ended}
 use Rattle.statements.specs.Listing.{rowsOf}
 use Rattle.passes.specs.Labels.{laidOver, labelsFit}
@@ -22,7 +23,7 @@ use Rattle.passes.specs.Passes.{passedOf, tooMany, endedOf, workedTable}
 use Rattle.assembly.specs.declared.Plan.{Plan}
 use Rattle.assembly.specs.declared.Assembled.{Assembled}
 use Rattle.assembly.specs.declared.output.Extent.{Extent}
-use Rattle.assembly.specs.Objects.{objectBuilt, valuesBuilt, addressAt, dirtyAt, gather, objectIn, valuesIn, objectsOf, valuesOf}
+use Rattle.assembly.specs.Objects.{objectBuilt, valuesBuilt, addressAt, pageAt, gather, objectIn, valuesIn, objectsOf, valuesOf}
 use Rattle.assembly.specs.Answers.{fitting, refusalOf, refused, assembledOf, stored, labelled}
 use Rattle.assembly.specs.Text.{settledText}
 use Rattle.assembly.specs.Steps.{firstPlace, rowsOn, objectsOn, valuesOn, tallyOn, noTally, endOf, extentOf, planOf}
@@ -49,9 +50,9 @@ module _ (src : Source) (ls : List ℕ) where
 
   module _ (t : List ℕ) where
     rows-from :
-        (f : ℕ → ℕ → Bool → List ℕ) (b : Bool) → many ≡ b →
+        (f : ℕ → ℕ → Page → List ℕ) (b : Bool) → many ≡ b →
         rowsOn src (workedTable src ls t) f (endedOf src ls .fine) 0 firstPlace
-        ≡ gather (λ k. f k (addressAt src (passedOf src ls) k) (dirtyAt src (passedOf src ls) k)) (endedOf src ls .fine) 0
+        ≡ gather (λ k. f k (addressAt src (passedOf src ls) k) (pageAt src (passedOf src ls) k)) (endedOf src ls .fine) 0
     unfolding endedOf workedTable rowsOn gather pick
     rows-from f true q = rw q
     rows-from f false q =
@@ -60,7 +61,7 @@ module _ (src : Source) (ls : List ℕ) where
         (ap (rowsOn src (o .table) f (o .answer .fine) 0) (sym (first-place src o))
         ∙ rows-settled src o (o .answer .fine) (passed-stand src ls) f (o .answer .fine) 0 (omega arith))
 
-    worked-from : (b : Bool) → many ≡ b → (f : List ℕ → ℕ → ℕ → Bool → List ℕ) →
+    worked-from : (b : Bool) → many ≡ b → (f : List ℕ → ℕ → ℕ → Page → List ℕ) →
         rowsOn src (workedTable src ls t) (f (workedTable src ls t)) (endedOf src ls .fine) 0 firstPlace
         ≡ rowsOn src (workedTable src ls t) (f (passedOf src ls .table)) (endedOf src ls .fine) 0 firstPlace
     unfolding endedOf workedTable rowsOn pick

@@ -17,7 +17,7 @@ use Rattle.records.specs.Written.{writtenOf, bufferOf}
 use Rattle.statements.proofs.Lawful.{values-lawful}
 use Rattle.passes.specs.Walks.{Source}
 use Rattle.passes.specs.Passes.{Outcome, passedOf, tooMany, endedOf}
-use Rattle.assembly.specs.Objects.{valuesBuilt, addressAt, dirtyAt, valuesIn, gather, objectsFrom, valuesFrom, objectsOf, valuesOf}
+use Rattle.assembly.specs.Objects.{valuesBuilt, addressAt, pageAt, valuesIn, gather, objectsFrom, valuesFrom, objectsOf, valuesOf}
 use Rattle.assembly.specs.Text.{settledText}
 use Rattle.assembly.proofs.Places.{Stands}
 use Rattle.assembly.proofs.Rows.{shape-near, shape-known}
@@ -56,7 +56,7 @@ module _ (src : Source) (o : Outcome) (fine : ℕ) (all : (i : ℕ) → i < fine
     values-good : (i : ℕ) → i < fine → badValues (valuesIn src o i) ≡ false
     unfolding valuesIn valuesBuilt
     values-good i h =
-        values-lawful (src .nodes) (o .table) nodes-fit labels-fit (src .list) (src .items) i (addressAt src o i % 65536) (dirtyAt src o i) false
+        values-lawful (src .nodes) (o .table) nodes-fit labels-fit (src .list) (src .items) i (addressAt src o i % 65536) (pageAt src o i) false
         (omega arith) (all i h .accepted)
 
     values-fit : (n i : ℕ) → i + n ≤ fine → badValues (valuesFrom src o n i) ≡ false

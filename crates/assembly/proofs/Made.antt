@@ -28,7 +28,7 @@ use Rattle.statements.proofs.Told.{instruction-fresh}
 use Rattle.statements.proofs.Small.{instruction-bytes}
 use Rattle.passes.specs.Walks.{Source}
 use Rattle.passes.specs.Passes.{Outcome, passedOf, tooMany, endedOf}
-use Rattle.assembly.specs.Objects.{kindAt, valuesBuilt, addressAt, dirtyAt, objectIn, valuesIn, gather, objectsFrom, valuesFrom, objectsOf, valuesOf}
+use Rattle.assembly.specs.Objects.{kindAt, valuesBuilt, addressAt, pageAt, objectIn, valuesIn, gather, objectsFrom, valuesFrom, objectsOf, valuesOf}
 use Rattle.assembly.specs.Made.{bytesIn, madeIn, madeFrom}
 use Rattle.assembly.proofs.Places.{Stands}
 use Rattle.assembly.proofs.Rows.{by-kind, objects-with, objects-without}
@@ -92,7 +92,7 @@ module _ (src : Source) (o : Outcome) (i node : ℕ) (s : Stands src o i) (is : 
   -- its operand record: the values of its operand there, and the page as it is there
   abbrev pub recordIn : Record
   recordIn =
-      recordOf (entryAt (src .list) i) (askedOf (src .nodes) (o .table) node (addressAt src o i % 65536)) (dirtyAt src o i)
+      recordOf (entryAt (src .list) i) (askedOf (src .nodes) (o .table) node (addressAt src o i % 65536)) (pageAt src o i)
 
   abbrev pub builtIn : Built
   builtIn = freshOf recordIn (addressAt src o i % 65536)
@@ -101,14 +101,14 @@ module _ (src : Source) (o : Outcome) (i node : ℕ) (s : Stands src o i) (is : 
   unfolding effectAt
   built-accepted =
       let z = s .accepted in
-      instruction-fresh node (entryAt (src .list) i) (src .items) (src .nodes) (o .table) (addressAt src o i % 65536) (dirtyAt src o i) false
+      instruction-fresh node (entryAt (src .list) i) (src .items) (src .nodes) (o .table) (addressAt src o i % 65536) (pageAt src o i) false
       (rw is at z) .accepted
 
   pub built-bytes : bytesIn src o i ≡ building.bytesIn builtIn
   unfolding valuesAt
   built-bytes =
       rw is
-      (instruction-bytes (src .nodes) (o .table) node (entryAt (src .list) i) (src .items) (addressAt src o i % 65536) (dirtyAt src o i))
+      (instruction-bytes (src .nodes) (o .table) node (entryAt (src .list) i) (src .items) (addressAt src o i % 65536) (pageAt src o i))
 
   -- decoding its bytes at its address, whatever follows them, reads its length and its meaning
   pub instruction-decodes :

@@ -23,7 +23,7 @@ use Rattle.passes.proofs.Fine.{fine-most}
 use Rattle.passes.proofs.Rests.{Rests, Ends, settle-rests}
 use Rattle.assembly.specs.declared.output.Place.{Place}
 use Rattle.assembly.specs.declared.tally.Tally.{Tally}
-use Rattle.assembly.specs.Objects.{kindAt, valuesBuilt, standsAt, objectBuilt, addressAt, dirtyAt, objectIn, valuesIn, gather, objectsFrom, valuesFrom}
+use Rattle.assembly.specs.Objects.{kindAt, valuesBuilt, standsAt, objectBuilt, addressAt, pageAt, objectIn, valuesIn, gather, objectsFrom, valuesFrom}
 use Rattle.assembly.specs.Steps.{firstPlace, tallied, tallyOn, noTally, endOf}
 use Rattle.assembly.proofs.Valued.{values-kinds}
 use Rattle.assembly.proofs.Standing.{with-data-stays}
@@ -41,17 +41,17 @@ module _ (src : Source) (o : Outcome) where
   unfolding objectIn objectBuilt valuesIn valuesBuilt
   stands-shape i s =
       let here = addressAt src o i % 65536 in
-      let dirty = dirtyAt src o i in
+      let page = pageAt src o i in
       record {
         says = refl;
-        own = with-data-stays (src .list) (src .items) (src .nodes) (o .table) i here dirty false;
-        long = values-length (src .list) (src .items) (src .nodes) (o .table) i here dirty;
+        own = with-data-stays (src .list) (src .items) (src .nodes) (o .table) i here page false;
+        long = values-length (src .list) (src .items) (src .nodes) (o .table) i here page;
         near = omega (arith, s .near);
         shown =
             ⊎-elim
-            (λ one. inl (one, sizes (src .list) (src .items) (src .nodes) (o .table) i here dirty false one (s .accepted)))
+            (λ one. inl (one, sizes (src .list) (src .items) (src .nodes) (o .table) i here page false one (s .accepted)))
             (λ other. inr other)
-            (values-kinds (src .list) (src .items) (src .nodes) (o .table) i here dirty);
+            (values-kinds (src .list) (src .items) (src .nodes) (o .table) i here page);
       }
 
   module _ (fine : ℕ) (all : (i : ℕ) → i < fine → Stands src o i) where

@@ -9,6 +9,7 @@ use native.Mathlib.Omega.{arith}
 use lib.Dec.{leb}
 use borrow.Author.Tests.{le-leb}
 use Rattle.ground.proofs.Choices.{pick-true, pick-false, by-pick}
+use Rattle.values.specs.declared.pages.Page.{Page}
 use Rattle.statements.specs.declared.Statement.{Statement}
 use Rattle.statements.specs.declared.Statement.the-variants.{Label, Instruction, Rmb, Fcb, Fdb, Fcc, Org, Unknown}
 use Rattle.statements.specs.declared.Entry.{Entry}
@@ -21,16 +22,16 @@ use Rattle.assembly.specs.Objects.{kindAt, standsAt}
 abbrev Moves : Statement → Effect → Type 0
 Moves s e = (e .moves ≡ false) ⊎ ((e .size ≡ 0) × (objectOf s ≡ 0))
 
-effect-moves : (s : Statement) (e : Entry) (items ns ls : List ℕ) (here : ℕ) (dirty ill : Bool) → Moves s (effectOf s e items ns ls here dirty ill)
+effect-moves : (s : Statement) (e : Entry) (items ns ls : List ℕ) (here : ℕ) (page : Page) (ill : Bool) → Moves s (effectOf s e items ns ls here page ill)
 unfolding instructionEffect reservedEffect originEffect
-effect-moves Label e items ns ls here dirty ill = inl refl
-effect-moves (Instruction node) e items ns ls here dirty ill = by-pick (Moves (Instruction node)) _ (inl refl) (inl refl)
-effect-moves (Rmb node) e items ns ls here dirty ill = by-pick (Moves (Rmb node)) _ (inl refl) (inl refl)
-effect-moves (Fcb first count) e items ns ls here dirty ill = inl refl
-effect-moves (Fdb first count) e items ns ls here dirty ill = inl refl
-effect-moves (Fcc first count) e items ns ls here dirty ill = inl refl
-effect-moves (Org node) e items ns ls here dirty ill = by-pick (Moves (Org node)) _ (inr (refl, refl)) (inl refl)
-effect-moves Unknown e items ns ls here dirty ill = inl refl
+effect-moves Label e items ns ls here page ill = inl refl
+effect-moves (Instruction node) e items ns ls here page ill = by-pick (Moves (Instruction node)) _ (inl refl) (inl refl)
+effect-moves (Rmb node) e items ns ls here page ill = by-pick (Moves (Rmb node)) _ (inl refl) (inl refl)
+effect-moves (Fcb first count) e items ns ls here page ill = inl refl
+effect-moves (Fdb first count) e items ns ls here page ill = inl refl
+effect-moves (Fcc first count) e items ns ls here page ill = inl refl
+effect-moves (Org node) e items ns ls here page ill = by-pick (Moves (Org node)) _ (inr (refl, refl)) (inl refl)
+effect-moves Unknown e items ns ls here page ill = inl refl
 
 stays : (e : Effect) (here : ℕ) → e .moves ≡ false → standsAt e here ≡ here
 unfolding standsAt
@@ -44,13 +45,13 @@ counted-stays : (at : ℕ) (e : Effect) → e .moves ≡ false → countedOf at 
 unfolding countedOf
 counted-stays at e m = by-pick (λ (x : Effect). x .moves ≡ false) (leb (at + e .size) 65536) m refl
 
-module _ (list items ns ls : List ℕ) (i here : ℕ) (dirty ill : Bool) where
+module _ (list items ns ls : List ℕ) (i here : ℕ) (page : Page) (ill : Bool) where
   abbrev does : Effect
-  does = effectAt list items ns ls i here dirty ill
+  does = effectAt list items ns ls i here page ill
 
   moves-at : Moves (statementAt list i) does
   unfolding effectAt
-  moves-at = effect-moves (statementAt list i) (entryAt list i) items ns ls here dirty ill
+  moves-at = effect-moves (statementAt list i) (entryAt list i) items ns ls here page ill
 
   pub with-data-stays : kindAt list i ≡ 1 → standsAt does here ≡ here
   with-data-stays one = ⊎-elim (λ m. stays does here m) (λ o. absurd (omega (arith, o .1, one))) moves-at

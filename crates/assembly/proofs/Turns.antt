@@ -9,6 +9,7 @@ use native.Mathlib.Omega.{arith}
 use lib.ListN.{length, set, length-append}
 use Rattle.ground.specs.Stores.{put, Wrote}
 use Rattle.ground.proofs.Stores.{rest, kept}
+use Rattle.values.specs.declared.pages.Page.{Page}
 use Rattle.statements.specs.declared.Effect.{Effect}
 use Rattle.statements.specs.Objects.{countIn}
 use Rattle.statements.proofs.Lengths.{values-length}
@@ -31,8 +32,8 @@ row-stored {at = at} p q r = record { next = refl; buffer = let two : at + 1 + 1
 pub step-joins :
     {src : Source} {ls : List ℕ} {i : ℕ} {s : Going} {os vs os′ vs′ : List ℕ} {count kind stands after : ℕ} {e : Effect} {next : Place} {tally : Tally} →
     s .place .at ≤ 65536 →
-    count ≡ countIn (valuesBuilt src ls i (s .place .at) (s .place .dirty)) →
-    vs′ ≡ put vs (s .values) (valuesBuilt src ls i (s .place .at) (s .place .dirty)) →
+    count ≡ countIn (valuesBuilt src ls i (s .place .at) (s .place .page)) →
+    vs′ ≡ put vs (s .values) (valuesBuilt src ls i (s .place .at) (s .place .page)) →
     count ≤ 65535 →
     kind ≡ kindAt (src .list) i →
     e ≡ doneAt src ls i (s .place) →
@@ -52,10 +53,10 @@ step-joins {src} {ls} {i} {s} {count = count} {kind} ready counted stored most k
       let here = s .place .at % 65536 in
       let address =
       there ∙ ap (λ (x : Effect). standsAt x here) done
-      ∙ counted-stands (src .list) (src .items) (src .nodes) ls i here (s .place .dirty) false (s .place .at) ready in
+      ∙ counted-stands (src .list) (src .items) (src .nodes) ls i here (s .place .page) false (s .place .at) ready in
       rw (← known, ← counted, ← address) object;
   values = record {
-    next = omega (arith, counted, values-length (src .list) (src .items) (src .nodes) ls i (s .place .at % 65536) (s .place .dirty));
+    next = omega (arith, counted, values-length (src .list) (src .items) (src .nodes) ls i (s .place .at % 65536) (s .place .page));
     buffer = stored;
   };
   near = near;
@@ -90,8 +91,8 @@ module _ (src : Source) (ls : List ℕ) where
   next i p = nextPlace (doneAt src ls i p) p
 
   rows-turn :
-      (f : ℕ → ℕ → Bool → List ℕ) (left i : ℕ) (p q : Place) → 0 < left → q ≡ next i p →
-      rowsOn src ls f left i p ≡ f i (p .at) (p .dirty) ++ rowsOn src ls f (left - 1) (i + 1) q
+      (f : ℕ → ℕ → Page → List ℕ) (left i : ℕ) (p q : Place) → 0 < left → q ≡ next i p →
+      rowsOn src ls f left i p ≡ f i (p .at) (p .page) ++ rowsOn src ls f (left - 1) (i + 1) q
   unfolding rowsOn
   rows-turn f zero i p q h e = absurd (omega arith)
   rows-turn f (suc left) i p q h e = rw (sub-one, e)
@@ -105,7 +106,7 @@ module _ (src : Source) (ls : List ℕ) where
   tally-turn (suc left) i p q t u h e f = rw (sub-one, e, f)
 
   module _ (left : ℕ) (z : left ≡ 0) (i : ℕ) (p : Place) where
-    none-rows : (f : ℕ → ℕ → Bool → List ℕ) → rowsOn src ls f left i p ≡ []
+    none-rows : (f : ℕ → ℕ → Page → List ℕ) → rowsOn src ls f left i p ≡ []
     unfolding rowsOn
     none-rows f = rw z
 

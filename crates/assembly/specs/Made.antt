@@ -8,11 +8,11 @@ use Rattle.statements.specs.Listing.{none}
 use Rattle.statements.specs.Objects.{bytesAt}
 use Rattle.passes.specs.Walks.{Source}
 use Rattle.passes.specs.Passes.{Outcome}
-use Rattle.assembly.specs.Objects.{kindAt, addressAt, dirtyAt, gather}
+use Rattle.assembly.specs.Objects.{kindAt, addressAt, pageAt, gather}
 
 -- the bytes of statement i, built at its address with the settled table and the page as it is there
 abbrev pub bytesIn : Source → Outcome → ℕ → List ℕ
-bytesIn src o i = bytesAt (src .list) (src .items) (src .nodes) (o .table) i (addressAt src o i % 65536) (dirtyAt src o i)
+bytesIn src o i = bytesAt (src .list) (src .items) (src .nodes) (o .table) i (addressAt src o i % 65536) (pageAt src o i)
 
 -- its object with data or without; a bare label has none
 unfoldable pub madeIn : Source → Outcome → ℕ → List Object

@@ -1,13 +1,16 @@
 -- What the code hands from part to part; only private contracts cite it.
 use mathlib.Core.Path.{_≡_}
 use Prim.Native.Nat.{ℕ, zero, suc, _+_, _*_, _/_, _%_, _≤_, _<_}
-use mathlib.Core.Bool.{Bool, false, _||_}
+use mathlib.Core.Bool.{false}
 use mathlib.Core.List.{List, [], _++_}
 use lib.Dec.{eqb}
 use lib.ListN.{length}
 use Rattle.ground.specs.Choice.{pick}
 use Rattle.ground.specs.Stores.{Wrote}
+use Rattle.values.specs.declared.pages.Page.{Page}
+use Rattle.values.specs.declared.pages.Page.the-variants.{Known}
 use Rattle.statements.specs.declared.Effect.{Effect}
+use Rattle.statements.specs.Turns.{turned}
 use Rattle.statements.specs.Effects.{effectAt, countedOf}
 use Rattle.passes.specs.Walks.{Source}
 use Rattle.passes.specs.Passes.{endedOf}
@@ -23,24 +26,24 @@ use Rattle.assembly.specs.declared.tally.Tally.{Tally}
 -- ---- from statement to statement, as long as each is accepted
 unfoldable pub doneAt : Source → List ℕ → ℕ → Place → Effect
 doneAt src ls i p =
-    countedOf (p .at) (effectAt (src .list) (src .items) (src .nodes) ls i (p .at % 65536) (p .dirty) false)
+    countedOf (p .at) (effectAt (src .list) (src .items) (src .nodes) ls i (p .at % 65536) (p .page) false)
 
 unfoldable pub nextPlace : Effect → Place → Place
-nextPlace e p = record { at = pick (e .moves) (e .to) (p .at + e .size); dirty = p .dirty || e .dirties }
+nextPlace e p = record { at = pick (e .moves) (e .to) (p .at + e .size); page = turned (e .turn) (p .page) }
 
 abbrev pub firstPlace : Place
-firstPlace = record { at = 0; dirty = false }
+firstPlace = record { at = 0; page = Known 0 }
 
 -- what f gives of n statements from i on, the first of which stands at a place
-unfoldable pub rowsOn : Source → List ℕ → (ℕ → ℕ → Bool → List ℕ) → ℕ → ℕ → Place → List ℕ
+unfoldable pub rowsOn : Source → List ℕ → (ℕ → ℕ → Page → List ℕ) → ℕ → ℕ → Place → List ℕ
 rowsOn src ls f zero i p = []
-rowsOn src ls f (suc n) i p = f i (p .at) (p .dirty) ++ rowsOn src ls f n (i + 1) (nextPlace (doneAt src ls i p) p)
+rowsOn src ls f (suc n) i p = f i (p .at) (p .page) ++ rowsOn src ls f n (i + 1) (nextPlace (doneAt src ls i p) p)
 
 abbrev pub objectsOn : Source → List ℕ → ℕ → ℕ → Place → List ℕ
-objectsOn src ls n i p = rowsOn src ls (λ k at dirty. objectBuilt src ls k at dirty) n i p
+objectsOn src ls n i p = rowsOn src ls (λ k at page. objectBuilt src ls k at page) n i p
 
 abbrev pub valuesOn : Source → List ℕ → ℕ → ℕ → Place → List ℕ
-valuesOn src ls n i p = rowsOn src ls (λ k at dirty. valuesBuilt src ls k at dirty) n i p
+valuesOn src ls n i p = rowsOn src ls (λ k at page. valuesBuilt src ls k at page) n i p
 
 -- ---- the length of the text
 -- a line of k bytes has 12 + 2 k characters; a record without bytes has no line
@@ -94,8 +97,8 @@ pub record Stepped (src : Source) (ls : List ℕ) (i : ℕ) (s : Going) (os vs :
   pub place : r .place ≡ nextPlace (doneAt src ls i (s .place)) (s .place)
   pub tally :
       r .tally ≡ tallied (kindAt (src .list) i) (s .place .at % 65536) (doneAt src ls i (s .place) .size) (s .tally)
-  pub objects : Wrote os (s .objects) (objectBuilt src ls i (s .place .at) (s .place .dirty)) (r .objects) os′
-  pub values : Wrote vs (s .values) (valuesBuilt src ls i (s .place .at) (s .place .dirty)) (r .values) vs′
+  pub objects : Wrote os (s .objects) (objectBuilt src ls i (s .place .at) (s .place .page)) (r .objects) os′
+  pub values : Wrote vs (s .values) (valuesBuilt src ls i (s .place .at) (s .place .page)) (r .values) vs′
   pub near : r .place .at ≤ 65536
   pub held : r .tally .held < 32
   pub short : r .tally .length ≤ s .tally .length + 200000

@@ -8,6 +8,7 @@ use statements::listing::NONE;
 use statements::listing::object_kind;
 use statements::listing::statement_at;
 use statements::objects::store_values;
+use values::pages::Page;
 ghost use mathlib.Core.Path.{_≡_};
 ghost use Prim.Native.Nat.{_+_, _≤_, _<_};
 ghost use Rattle.ground.specs.Stores.{put, Wrote};
@@ -15,10 +16,10 @@ ghost use Rattle.passes.specs.Walks.{source};
 ghost use Rattle.assembly.specs.Objects.{kindAt, objectRow, standsAt};
 ghost use Rattle.assembly.specs.Steps.{doneAt, nextPlace, firstPlace, objectsOn, valuesOn, extentOf, Ready, Stepped};
 
-// Where a statement stands: the running address, and whether the page is dirty.
+// Where a statement stands: the running address, and the page.
 pub(crate) struct Place {
     pub at: u32,
-    pub dirty: bool,
+    pub page: Page,
 }
 
 impl Place {
@@ -27,16 +28,18 @@ impl Place {
         ensures answer { λ r. ⌜ r ≡ nextPlace e self ⌝ }
         ensures bound { λ r. ⌜ r .at ≤ 65536 ⌝ }
     {
-        let dirty = self.dirty | e.dirties;
+        let turn = e.turn;
+        let before = self.page;
+        let page = turn.turns(before);
         if e.moves {
             return Place {
                 at: e.to as u32,
-                dirty,
+                page,
             };
         }
         Place {
             at: self.at + e.size,
-            dirty,
+            page,
         }
     }
 }
@@ -103,9 +106,10 @@ fn done_at(
     ensures bound { λ r. ⌜ place .at + r .size ≤ 65536 ⌝ }
 {
     let here = (place.at % 65536) as u16;
+    let page = place.page;
     counted(
         place.at,
-        effect(list, items, nodes, labels, i, here, place.dirty, false),
+        effect(list, items, nodes, labels, i, here, page, false),
     )
 }
 
@@ -124,6 +128,7 @@ fn step(
     ensures { λ r. ⌜ Stepped (source (now (list .entry)) (now (items .entry)) (now (nodes .entry))) (now (labels .entry)) i s (now (objects .entry)) (now (values .entry)) r (now (objects .exit)) (now (values .exit)) ⌝ }
 {
     let place = s.place;
+    let page = place.page;
     let tally = s.tally;
     let here = (place.at % 65536) as u16;
     let count = store_values(
@@ -133,7 +138,7 @@ fn step(
         labels,
         i,
         here,
-        place.dirty,
+        page,
         values,
         s.values,
     );
@@ -168,7 +173,7 @@ pub(crate) fn emit(
 {
     let place = Place {
         at: 0,
-        dirty: false,
+        page: Page::Known(0),
     };
     let tally = Tally {
         next: 0,

@@ -37,7 +37,7 @@ use Rattle.passes.specs.Walks.{Source, walkTo, walkOf}
 use Rattle.passes.specs.Passes.{Outcome, passOf, passedOf, answerOf, tooMany, endedOf}
 use Rattle.passes.proofs.Fine.{fine-all}
 use Rattle.passes.proofs.Rests.{Rests, ended-rests}
-use Rattle.assembly.specs.Objects.{gather, addressAt, dirtyAt, objectsOf, valuesOf}
+use Rattle.assembly.specs.Objects.{gather, addressAt, pageAt, objectsOf, valuesOf}
 use Rattle.assembly.specs.Made.{bytesIn, madeIn, madeFrom}
 use Rattle.assembly.specs.Text.{settledText}
 use Rattle.assembly.proofs.Places.{Stands, own}
@@ -65,14 +65,14 @@ module _ (src : Source) (o : Outcome) (i : ℕ) (s : Stands src o i) where
   module _ (node : ℕ) (is : statementAt (src .list) i ≡ Instruction node) where
     -- what it does, as an instruction
     does : Effect
-    does = effectOf (Instruction node) (entryAt (src .list) i) (src .items) (src .nodes) (o .table) (addressAt src o i % 65536) (dirtyAt src o i) false
+    does = effectOf (Instruction node) (entryAt (src .list) i) (src .items) (src .nodes) (o .table) (addressAt src o i % 65536) (pageAt src o i) false
 
     own-does : own src o i ≡ does
     unfolding effectAt does
     own-does =
         ap
         (λ (x : Statement).
-        effectOf x (entryAt (src .list) i) (src .items) (src .nodes) (o .table) (addressAt src o i % 65536) (dirtyAt src o i) false)
+        effectOf x (entryAt (src .list) i) (src .items) (src .nodes) (o .table) (addressAt src o i % 65536) (pageAt src o i) false)
         is
 
     does-stay : does .moves ≡ false
@@ -82,7 +82,7 @@ module _ (src : Source) (o : Outcome) (i : ℕ) (s : Stands src o i) where
     does-size : does .size ≡ builtIn src o i node s is .length
     unfolding does
     does-size =
-        instruction-fresh node (entryAt (src .list) i) (src .items) (src .nodes) (o .table) (addressAt src o i % 65536) (dirtyAt src o i) false
+        instruction-fresh node (entryAt (src .list) i) (src .items) (src .nodes) (o .table) (addressAt src o i % 65536) (pageAt src o i) false
         (sym (ap (λ (x : Effect). x .refusal) own-does) ∙ s .accepted) .counted
 
     instruction-next : addressAt src o (i + 1) ≡ addressAt src o i + builtIn src o i node s is .length

@@ -11,7 +11,7 @@ use Rattle.statements.specs.Asking.{askedOf}
 use Rattle.statements.specs.Effects.{recordOf}
 use Rattle.passes.specs.Walks.{Source}
 use Rattle.passes.specs.Passes.{Outcome, passedOf}
-use Rattle.assembly.specs.Objects.{addressAt, dirtyAt, gather}
+use Rattle.assembly.specs.Objects.{addressAt, pageAt, gather}
 
 -- an instruction or a bare label
 abbrev pub isCode : Statement → Bool
@@ -26,18 +26,18 @@ isCode Unknown = false
 
 -- the operand record of an instruction that stands at an address, with the values that its operand has there; a label has none
 abbrev pub recordsOf : Statement → Entry → List ℕ → List ℕ → ℕ → Bool → List Record
-recordsOf Label e ns ls here dirty = []
-recordsOf (Instruction node) e ns ls here dirty = recordOf e (askedOf ns ls node here) dirty ∷ []
-recordsOf (Rmb node) e ns ls here dirty = []
-recordsOf (Fcb first count) e ns ls here dirty = []
-recordsOf (Fdb first count) e ns ls here dirty = []
-recordsOf (Fcc first count) e ns ls here dirty = []
-recordsOf (Org node) e ns ls here dirty = []
-recordsOf Unknown e ns ls here dirty = []
+recordsOf Label e ns ls here page = []
+recordsOf (Instruction node) e ns ls here page = recordOf e (askedOf ns ls node here) page ∷ []
+recordsOf (Rmb node) e ns ls here page = []
+recordsOf (Fcb first count) e ns ls here page = []
+recordsOf (Fdb first count) e ns ls here page = []
+recordsOf (Fcc first count) e ns ls here page = []
+recordsOf (Org node) e ns ls here page = []
+recordsOf Unknown e ns ls here page = []
 
 unfoldable pub recordsIn : Source → Outcome → ℕ → List Record
 recordsIn src o i =
-    recordsOf (statementAt (src .list) i) (entryAt (src .list) i) (src .nodes) (o .table) (addressAt src o i % 65536) (dirtyAt src o i)
+    recordsOf (statementAt (src .list) i) (entryAt (src .list) i) (src .nodes) (o .table) (addressAt src o i % 65536) (pageAt src o i)
 
 -- of n statements from i on
 abbrev pub recordsFrom : Source → Outcome → ℕ → ℕ → List Record
