@@ -1,5 +1,5 @@
 -- Texts of other makers against 01's two instructions, `LDA` 0,X and `RTS` at 0100, under a single statement: equal, and each way to differ. And against
--- `LDA $0182`,PCR there, whose postbyte may carry register bits.
+-- `LDA $0182`,PCR there, whose postbyte may carry register bits. All of these under page 0; then `LDA $0005` and `LDA $2005` under pages of their own.
 -- Assumes nothing.
 use mathlib.Core.Path.{_≡_, refl}
 use mathlib.Core.Bool.{true, false}
@@ -8,6 +8,9 @@ use Prim.Native.Nat.{ℕ}
 use lib.ListN.{replicate}
 use Rattle.ground.specs.Choice.{pick}
 use Rattle.values.specs.Widths.{bitsOf, extended, validOf, signExtendedOf}
+use Rattle.values.specs.declared.pages.Page.{Page}
+use Rattle.values.specs.declared.pages.Page.the-variants.{Unknown, Known}
+use Rattle.values.specs.Pages.{isPage, pageNumbered}
 use Rattle.rows.specs.Sheet.{page0, page10, page11, tableOf}
 use Rattle.rows.specs.Lookup.{mergedOf, placed, hasFormOf, knownOf, codeOf, rowOf}
 use Rattle.rows.specs.Sizes.{isWide, isLong, numberAt, numberSizeOf}
@@ -15,14 +18,14 @@ use Rattle.postbytes.specs.Lists.{anyUnknown, strangeList}
 use Rattle.postbytes.specs.Reading.{directOnly, addressOnly, highOf, shapeOf}
 use Rattle.postbytes.specs.Writing.{marked, constantOf, offsetOf, relativeOf}
 use Rattle.instruction.specs.Records.{stepped, recognised, narrower, agreeing, lawful, sound}
-use Rattle.instruction.specs.Forms.{registerForm, formOf, strays, lacks, needsValue}
-use Rattle.instruction.specs.Choosing.{inherentOf, accumulatorIndex, offsetValue, offsetIndex, targetIndex, indexOf, chooseOf}
+use Rattle.instruction.specs.Forms.{becomesDirect, extendedForm, registerForm, formOf, strays, lacks, needsValue}
+use Rattle.instruction.specs.Choosing.{inherentOf, anewAs, anewOf, addressOf, accumulatorIndex, offsetValue, offsetIndex, targetIndex, indexOf, chooseOf}
 use Rattle.instruction.specs.Bytes.{numberBytes, operandBytes, codeSize, behindCode, laidAt, laidOf}
 use Rattle.instruction.specs.Building.{instructionOf, madeAs, makeOf, earlyOf, dirtiesOf, acceptedOf, finishedOf, buildOf, handed, freshFrom, freshOf}
 use Rattle.meanings.specs.Means.{offsetIn, offsetKind, indexKind, kindOf, operationOf, meaningOf}
-use Rattle.entries.specs.Entries.{byteIn, isFlag, flagIn, flaggedIn, registersIn, fieldsIn, toldIn, valueIn, valuesIn, allFlagged, entryOf}
+use Rattle.entries.specs.Entries.{byteIn, isFlag, flagIn, isPageIn, pageIn, flaggedIn, registersIn, fieldsIn, toldIn, valueIn, valuesIn, allFlagged, entryOf}
 use Rattle.laying.specs.Entries.{entryAt, rowsIn, entriesFrom, entriesOf}
-use Rattle.laying.specs.Laying.{builtAt, refusalAt, layFrom, layOf}
+use Rattle.laying.specs.Laying.{Outcome, Bytes, builtAt, refusalAt, layFrom, layOf}
 use Rattle.laying.specs.Meant.{meaningsFrom}
 use Rattle.records.specs.Hex.{hexOf}
 use Rattle.records.specs.Line.{checkOf, body, line}
@@ -31,7 +34,9 @@ use Rattle.reader.specs.Lines as lines
 use Rattle.reader.specs.Lines.{countOf, typeOf, dataOf, endsLine, afterEnd, recordOf, lineIn, recordsIn}
 use Rattle.reader.specs.Answers.{runsIn}
 use Rattle.reader.proofs.Cases.{code, end, lf, first}
-use Rattle.decoder.specs.Origin.{shifted, outside, targetOf}
+use Rattle.decoder.specs.declared.Decoded.{Decoded}
+use Rattle.decoder.specs.declared.Kind.the-variants.{Memory}
+use Rattle.decoder.specs.Origin.{shifted, outside, targetOf, directOf, unseen}
 use Rattle.decoder.specs.Meaning.{joined}
 use Rattle.decoder.specs.Operands.{numberOf, numberedOf, numberedAt, indexedAs, indexedAt, operandOf}
 use Rattle.decoder.specs.Front.{codedOf, frontOf}
@@ -48,15 +53,32 @@ list =
 abbrev counter : List ℕ
 counter = 54 ∷ 2 ∷ 0 ∷ 0 ∷ 0 ∷ 0 ∷ 1 ∷ 7 ∷ 0 ∷ 0 ∷ 0 ∷ 0 ∷ 0 ∷ 0 ∷ 0 ∷ 0 ∷ 1 ∷ 0x0182 ∷ 16 ∷ 0x0182 ∷ 16 ∷ []
 
+-- `LDA` with an address, under a page
+abbrev memory : (page address : ℕ) → List ℕ
+memory page address = 54 ∷ 4 ∷ 0 ∷ 0 ∷ 0 ∷ 0 ∷ 0 ∷ 0 ∷ 0 ∷ 0 ∷ 0 ∷ 0 ∷ 0 ∷ 0 ∷ 0 ∷ page ∷ 1 ∷ address ∷ 16 ∷ address ∷ 16 ∷ []
+
+-- `LDA $0005` under page 0 and `LDA $2005` under page 20 (hexadecimal)
+abbrev low : List ℕ
+low = memory 0 0x0005
+
+abbrev high : List ℕ
+high = memory 0x20 0x2005
+
 -- bytes at an address, and the end record
 abbrev at : ℕ → List ℕ → List ℕ
 at address bytes = line 0 address bytes ++ end
 
 pub data Question : Type 0 where
   compare : List ℕ → ℕ → List ℕ → Question
+  under : Page → List ℕ → ℕ → List ℕ → Question
 
 abbrev ask : Question → Compared
-ask (compare l address text) = compareOf l address text
+ask (compare l address text) = compareOf l address (Known 0) text
+ask (under page l address text) = compareOf l address page text
+
+-- the text of what both of them are laid as
+abbrev both : List ℕ
+both = at 0x0100 (0x96 ∷ 0x05 ∷ [])
 
 abbrev asked : List Question
 asked =
@@ -87,6 +109,17 @@ asked =
     ∷ compare list 0x0100 (at 0xFFFF (0x12 ∷ 0x12 ∷ []))
     ∷ compare list 0xFFFE code
     ∷ compare (replicate 21525 0) 0x0100 code
+    -- one text under two pages says two things; with the page unknown it says neither
+    ∷ under (Known 0) low 0x0100 both
+    ∷ under (Known 0x20) low 0x0100 both
+    ∷ under (Known 0) high 0x0100 both
+    ∷ under (Known 0x20) high 0x0100 both
+    ∷ under Unknown low 0x0100 both
+    -- laid under page 0, and then with the page unknown: read under page 0, and under another
+    ∷ under (Known 0) (low ++ memory 256 0x0005) 0x0100 (at 0x0100 (0x96 ∷ 0x05 ∷ 0xB6 ∷ 0x00 ∷ 0x05 ∷ []))
+    ∷ under (Known 0x20) (memory 256 0x0005 ++ low) 0x0100 (at 0x0100 (0xB6 ∷ 0x00 ∷ 0x05 ∷ 0x96 ∷ 0x05 ∷ []))
+    -- laid under page 20 and read with it: $0005 does not lie there
+    ∷ under (Known 0x20) (high ++ memory 0x20 0x0005) 0x0100 (at 0x0100 (0x96 ∷ 0x05 ∷ 0xB6 ∷ 0x00 ∷ 0x05 ∷ []))
     ∷ []
 
 abbrev answered : List Compared
@@ -110,8 +143,29 @@ answered =
     ∷ refused 18
     ∷ refused 18
     ∷ refused 17
+    ∷ answer true 1
+    ∷ answer false 0
+    ∷ answer false 0
+    ∷ answer true 1
+    ∷ answer false 0
+    ∷ answer true 2
+    ∷ answer false 1
+    ∷ answer true 2
     ∷ []
 
-pub cases : map ask asked ≡ answered
-unfolding pick bitsOf extended validOf signExtendedOf tableOf page0 page10 page11 mergedOf placed hasFormOf knownOf codeOf rowOf isWide isLong numberAt numberSizeOf anyUnknown strangeList directOnly addressOnly highOf shapeOf marked constantOf offsetOf relativeOf stepped recognised narrower agreeing lawful sound registerForm formOf strays lacks needsValue inherentOf accumulatorIndex offsetValue offsetIndex targetIndex indexOf chooseOf numberBytes operandBytes codeSize behindCode laidAt laidOf instructionOf madeAs makeOf earlyOf dirtiesOf acceptedOf finishedOf buildOf handed freshFrom freshOf offsetIn offsetKind indexKind kindOf operationOf meaningOf byteIn isFlag flagIn flaggedIn registersIn fieldsIn toldIn valueIn valuesIn allFlagged entryOf entryAt rowsIn entriesFrom entriesOf builtAt refusalAt layFrom layOf meaningsFrom hexOf checkOf body line digitOf pairOf behind countOf lines.addressOf lines.sound typeOf dataOf endsLine afterEnd recordOf lineIn recordsIn runsIn shifted outside targetOf joined numberOf numberedOf numberedAt indexedAs indexedAt operandOf codedOf frontOf runFrom runOf sameParts sameMeaning same textAgainst compareOf
-cases = refl
+-- "its last sentence holds for two lists laid under the same page": low and high are laid as the same bytes, and mean two things
+abbrev laid : List ℕ → Outcome
+laid l = layOf l 0x0100 2
+
+abbrev means : List ℕ → List Decoded
+means l = meaningsFrom (entriesOf l) 0x0100
+
+abbrev loads : ℕ → List Decoded
+loads address = record { refusal = 0; length = 2; meaning = record { operation = 54; kind = Memory address } } ∷ []
+
+pub cases :
+    (map ask asked ≡ answered)
+    × (map laid (low ∷ high ∷ []) ≡ Bytes (0x96 ∷ 0x05 ∷ []) ∷ Bytes (0x96 ∷ 0x05 ∷ []) ∷ [])
+    × (map means (low ∷ high ∷ []) ≡ loads 0x0005 ∷ loads 0x2005 ∷ [])
+unfolding pick bitsOf extended validOf signExtendedOf isPage pageNumbered tableOf page0 page10 page11 mergedOf placed hasFormOf knownOf codeOf rowOf isWide isLong numberAt numberSizeOf anyUnknown strangeList directOnly addressOnly highOf shapeOf marked constantOf offsetOf relativeOf stepped recognised narrower agreeing lawful sound becomesDirect extendedForm registerForm formOf strays lacks needsValue inherentOf anewAs anewOf addressOf accumulatorIndex offsetValue offsetIndex targetIndex indexOf chooseOf numberBytes operandBytes codeSize behindCode laidAt laidOf instructionOf madeAs makeOf earlyOf dirtiesOf acceptedOf finishedOf buildOf handed freshFrom freshOf offsetIn offsetKind indexKind kindOf operationOf meaningOf byteIn isFlag flagIn isPageIn pageIn flaggedIn registersIn fieldsIn toldIn valueIn valuesIn allFlagged entryOf entryAt rowsIn entriesFrom entriesOf builtAt refusalAt layFrom layOf meaningsFrom hexOf checkOf body line digitOf pairOf behind countOf lines.addressOf lines.sound typeOf dataOf endsLine afterEnd recordOf lineIn recordsIn runsIn shifted outside targetOf directOf unseen joined numberOf numberedOf numberedAt indexedAs indexedAt operandOf codedOf frontOf runFrom runOf sameParts sameMeaning same textAgainst compareOf
+cases = (refl, refl, refl)

@@ -2,11 +2,15 @@
 -- Assumes nothing.
 use borrow.Author.Tests.{le-ltb}
 use mathlib.Core.Path.{_≡_, refl, sym, ap, _∙_}
+use mathlib.Core.Bool.{true}
 use mathlib.Core.List.{List, [], _∷_, append-nil}
 use Prim.Native.Nat.{ℕ, zero, suc, _+_, _%_, _≤_, _<_}
 use native.Mathlib.Omega.{arith}
 use lib.ListN.{length}
 use Rattle.ground.proofs.Choices.{pick-false}
+use Rattle.values.specs.declared.pages.Page.{Page}
+use Rattle.values.specs.Pages.{meets}
+use Rattle.values.proofs.Reached.{meets-same}
 use Rattle.records.specs.Text.{Rec, close}
 use Rattle.records.specs.Fine.{Bytes}
 use Rattle.records.proofs.Fine.{bytes-append}
@@ -19,10 +23,10 @@ use Rattle.laying.specs.Entries.{rowsIn, entriesFrom, entriesOf}
 use Rattle.laying.specs.Laying as laying
 use Rattle.laying.specs.Laying.{builtAt, layFrom, layOf}
 use Rattle.laying.specs.Exactly.{bytesFrom}
-use Rattle.laying.specs.Meant.{meaningsFrom}
+use Rattle.laying.specs.Meant.{allMeet}
 use Rattle.laying.proofs.Exactly.{fits-laid, laid-exactly}
 use Rattle.laying.proofs.Decodes.{laid-decodes, laid-whole}
-use Rattle.roundtrip.specs.Demand.{decodedIn, backFrom, DemandThree, TextsTell}
+use Rattle.roundtrip.specs.Demand.{decodedIn, backFrom, DemandThree, TextsTell, OnePage, DemandOnePage, TextsTellOnePage}
 use Rattle.entries.proofs.Small.{fresh-bytes}
 use Rattle.roundtrip.proofs.Written.{object-written, object-run, object-read}
 
@@ -44,50 +48,43 @@ unfolding entriesOf
 entries-many list = rows-many (rowsIn list) list 0
 
 -- ---- one run is decoded as it stands
-pub one-decoded : (address : ℕ) (bytes : List ℕ) → address ≤ 65536 → decodedIn (close address bytes []) ≡ runOf bytes (origin address)
+pub one-decoded : (page : Page) (address : ℕ) (bytes : List ℕ) → address ≤ 65536 → decodedIn page (close address bytes []) ≡ runOf bytes (origin address page)
 unfolding runOf outside runFrom
-one-decoded address [] h = sym (pick-false _ _ (le-ltb 65536 (address + 0) (omega arith)))
-one-decoded address (b ∷ bytes) h = append-nil (runOf (b ∷ bytes) (origin address))
+one-decoded page address [] h = sym (pick-false _ _ (le-ltb 65536 (address + 0) (omega arith)))
+one-decoded page address (b ∷ bytes) h = append-nil (runOf (b ∷ bytes) (origin address page))
 
--- ---- what was laid: bytes, none beyond 65535, that decode to what the records mean
-pub record Taken (list : List ℕ) (address : ℕ) (bytes : List ℕ) : Type 0 where
+-- ---- what was laid: bytes, none beyond 65535, of the list's instructions
+pub record Taken (list : List ℕ) (address room : ℕ) (bytes : List ℕ) : Type 0 where
   pub small : Bytes bytes
   pub near : address + length bytes ≤ 65536
-  pub decoded : runOf bytes (origin address) ≡ meaningsFrom (entriesOf list) address
-  pub accepted : refusalIn (runOf bytes (origin address)) ≡ 0
-  pub number : length (runOf bytes (origin address)) ≡ rowsIn list
-  pub whole : totalOf (runOf bytes (origin address)) ≡ length bytes
+  pub laid : layFrom (entriesOf list) address room ≡ laying.Bytes bytes
 
-pub laid-taken : (list : List ℕ) (address room : ℕ) (bytes : List ℕ) → address < 65536 → layOf list address room ≡ laying.Bytes bytes → Taken list address bytes
+pub laid-taken : (list : List ℕ) (address room : ℕ) (bytes : List ℕ) → address < 65536 → layOf list address room ≡ laying.Bytes bytes → Taken list address room bytes
 laid-taken list address room bytes h e =
     let entries = entriesOf list in
     let exact = laid-exactly list address room (omega arith) bytes .0 e in
-    let laid : layFrom entries address room ≡ laying.Bytes bytes = fits-laid entries address room (exact .1) ∙ ap laying.Bytes (sym (exact .2)) in
-    let all = laid-whole entries address room bytes (omega arith) laid in
     record {
       small = rw (exact .2) (laid-bytes entries address);
       near = omega (arith, exact .1 .within, ap length (exact .2));
-      decoded = laid-decodes entries address room bytes (omega arith) laid;
-      accepted = all .0;
-      number = all .1 ∙ entries-many list;
-      whole = all .2;
+      laid = fits-laid entries address room (exact .1) ∙ ap laying.Bytes (sym (exact .2));
     }
 
 pub demand-three : DemandThree
 unfolding backFrom
-demand-three list address room bytes h e =
+demand-three page list address room bytes h m e =
     let t = laid-taken list address room bytes h e in
+    let all = laid-whole page (entriesOf list) address room bytes (omega arith) m (t .laid) in
     let run = object-run address bytes (t .small) (t .near) in
-    let decoded : backFrom address bytes ≡ runOf bytes (origin address) =
-    ap decodedIn run ∙ one-decoded address bytes (omega arith) in
+    let decoded : backFrom page address bytes ≡ runOf bytes (origin address page) =
+    ap (decodedIn page) run ∙ one-decoded page address bytes (omega arith) in
     record {
       written = object-written address bytes (t .small) (t .near);
       read = object-read address bytes (t .small) (t .near);
       run = run;
-      same = decoded ∙ t .decoded;
-      number = ap length decoded ∙ t .number;
-      accepted = ap refusalIn decoded ∙ t .accepted;
-      whole = ap totalOf decoded ∙ t .whole;
+      same = decoded ∙ laid-decodes page (entriesOf list) address room bytes (omega arith) m (t .laid);
+      number = ap length decoded ∙ all .1 ∙ entries-many list;
+      accepted = ap refusalIn decoded ∙ all .0;
+      whole = ap totalOf decoded ∙ all .2;
     }
 
 -- ---- one run tells its bytes, and its address where it has any
@@ -105,12 +102,27 @@ same-run a b (x ∷ xs) (y ∷ ys) e =
 
 pub texts-tell : TextsTell
 unfolding backFrom
-texts-tell xs ys a b roomx roomy these those ha hb ea eb t =
-    let p = demand-three xs a roomx these ha ea in
-    let q = demand-three ys b roomy those hb eb in
+texts-tell page xs ys a b roomx roomy these those ha hb ma mb ea eb t =
+    let p = demand-three page xs a roomx these ha ma ea in
+    let q = demand-three page ys b roomy those hb mb eb in
     let s = same-run a b these those (sym (p .run) ∙ ap runsIn t ∙ q .run) in
     record {
-      means = sym (p .same) ∙ ap (λ (text : List ℕ). decodedIn (runsIn text)) t ∙ q .same;
+      means = sym (p .same) ∙ ap (λ (text : List ℕ). decodedIn page (runsIn text)) t ∙ q .same;
       bytes = s .bytes;
       place = s .place;
     }
+
+-- ---- a list under one page
+pub one-page : (page : Page) (entries : List Record) → OnePage page entries → allMeet page entries ≡ true
+unfolding allMeet
+one-page page [] o = refl
+one-page page (entry ∷ entries) o =
+    let own : meets page (entry .page) ≡ true = rw (o .0) (meets-same page) in
+    rw (own, one-page page entries (o .1))
+
+pub one-page-demand : DemandOnePage
+one-page-demand page list address room bytes h o = demand-three page list address room bytes h (one-page page (entriesOf list) o)
+
+pub one-page-tells : TextsTellOnePage
+one-page-tells page xs ys a b roomx roomy these those ha hb oa ob =
+    texts-tell page xs ys a b roomx roomy these those ha hb (one-page page (entriesOf xs) oa) (one-page page (entriesOf ys) ob)

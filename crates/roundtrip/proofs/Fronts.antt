@@ -1,4 +1,4 @@
--- What laying left at the front of a scratch that has room for every list, and what the comparison and the writing make of it.
+-- What laying left at the front of a scratch that has room for every list, and what the writing makes of it.
 -- Assumes nothing.
 use mathlib.Core.Path.{_≡_, refl, sym, ap, _∙_}
 use mathlib.Core.List.{List, _++_}
@@ -9,21 +9,16 @@ use lib.Seq.{take-at, length-take-le}
 use Rattle.records.specs.Written.{writtenOf, bufferOf}
 use Rattle.records.specs.Written as written
 use Rattle.records.specs.declared.Written.{Written}
-use Rattle.decoder.specs.declared.Decoded.{Decoded}
-use Rattle.decoder.specs.Origin.{origin}
-use Rattle.decoder.specs.Run.{runOf, refusalIn}
 use Rattle.laying.specs.Entries.{entriesOf}
 use Rattle.laying.specs.Laying as laying
 use Rattle.laying.specs.Laying.{Outcome, Refused, Bytes, layOf, answerOf}
 use Rattle.laying.specs.Exactly.{bytesFrom}
-use Rattle.laying.specs.Meant.{meaningsFrom}
 use Rattle.laying.specs.declared.Laid.{Laid}
 use Rattle.laying.proofs.Exactly.{laid-exactly, zero-exactly}
 use Rattle.records.specs.Objects.{byteRows}
 use Rattle.roundtrip.specs.Demand.{objectFor}
-use Rattle.roundtrip.specs.Comparing.{refused, textAgainst, allRoom, comparedAs, compareOf}
+use Rattle.roundtrip.specs.Comparing.{allRoom}
 use Rattle.roundtrip.specs.LaidText.{writtenAs, bufferAs, laidText, laidBuffer}
-use Rattle.roundtrip.specs.declared.Compared.{Compared}
 use Rattle.roundtrip.proofs.Written.{object-answers, object-buffer}
 use Rattle.roundtrip.proofs.Demand.{Taken, laid-taken}
 use Rattle.roundtrip.proofs.Equal.{room-ample}
@@ -43,10 +38,6 @@ module _ (list : List ℕ) (address : ℕ) (d : List ℕ) (r : Laid) (room : 512
       go : (o : Outcome) → outcome ≡ o → g (r .refusal) ≡ f outcome
       go (Refused n) q = ap g (ap (λ (x : Laid). x .refusal) (answers ∙ ap answerOf q)) ∙ sym (ap f q ∙ each n)
       go (Bytes bytes) q = absurd (z (ap (λ (x : Laid). x .refusal) (answers ∙ ap answerOf q)))
-
-  pub compare-refused : (text : List ℕ) → (r .refusal ≡ 0 → ⊥) → refused (r .refusal) ≡ compareOf list address text
-  unfolding compareOf
-  compare-refused text = refused-by (λ (o : Outcome). comparedAs o (meaningsFrom (entriesOf list) address) address text) refused (λ n. refl)
 
   pub text-refused : (space : ℕ) → (r .refusal ≡ 0 → ⊥) → written.refused (r .refusal) ≡ laidText list address space
   unfolding laidText
@@ -83,19 +74,8 @@ module _ (list : List ℕ) (address : ℕ) (d : List ℕ) (r : Laid) (room : 512
         let fits = laid-exactly list address (length d) (omega arith) bytes .0 there .1 in
         (length-take-le (r .length) e front-fits, omega (arith, size, fits .enough))
 
-    taken : Taken list address bytes
+    taken : Taken list address allRoom bytes
     taken = laid-taken list address allRoom bytes h is-laid
-
-    pub front-accepted : refusalIn (runOf (take (r .length) e) (origin address)) ≡ 0
-    front-accepted = rw front (taken .accepted)
-
-    -- what is answered for the front is answered for the list
-    pub compare-read : (text : List ℕ) {x : Compared} → x ≡ textAgainst (runOf (take (r .length) e) (origin address)) address text → x ≡ compareOf list address text
-    unfolding compareOf
-    compare-read text q =
-        q
-        ∙ ap (λ (ds : List Decoded). textAgainst ds address text) (ap (λ (l : List ℕ). runOf l (origin address)) front ∙ taken .decoded)
-        ∙ sym (ap (λ (o : Outcome). comparedAs o (meaningsFrom (entriesOf list) address) address text) is-laid)
 
     abbrev objects : List ℕ
     objects = objectFor address (take (r .length) e)

@@ -4,7 +4,7 @@ use borrow.Author.Tests.{eq-eqb, ne-eqb, eqb-true, eqb-false, le-ltb}
 use mathlib.Core.Path.{_≡_, refl, sym, ap, _∙_}
 use mathlib.Core.Bool.{Bool, true, false, _&&_}
 use mathlib.Core.List.{List, [], _∷_}
-use Prim.Native.Nat.{ℕ, _+_, _≤_, _<_}
+use Prim.Native.Nat.{ℕ, _+_, _/_, _≤_, _<_}
 use native.Mathlib.Omega.{arith}
 use lib.Dec.{eqb, ltb}
 use lib.ListN.{length, take, drop, length-append}
@@ -19,17 +19,22 @@ use Rattle.reader.specs.declared.runs.Run.{Run}
 use Rattle.reader.proofs.Handing.{Near, asked-near}
 use Rattle.reader.proofs.Same.{held-same, held-refused}
 use Rattle.reader.proofs.Only.{read-run-only}
-use Rattle.decoder.specs.declared.Origin.{Origin}
+use Rattle.values.specs.declared.pages.Page.{Page}
 use Rattle.decoder.specs.declared.Decoded.{Decoded}
 use Rattle.decoder.specs.Origin.{origin, outside}
-use Rattle.decoder.specs.Front.{frontOf}
-use Rattle.decoder.specs.Run.{runFrom, runOf, refusalIn}
+use Rattle.decoder.specs.Run.{runOf}
+use Rattle.laying.specs.Entries.{rowsIn, entriesOf}
+use Rattle.laying.specs.Laying.{Outcome, Refused, Bytes, layOf, answerOf}
+use Rattle.laying.specs.Meant.{meaningsFrom}
+use Rattle.laying.specs.declared.Laid.{Laid}
+use Rattle.laying.proofs.Exactly.{zero-exactly}
+use Rattle.laying.proofs.Decodes.{as-many}
 use Rattle.roundtrip.specs.Same.{allAgree}
-use Rattle.roundtrip.specs.Comparing.{refused, answer, none, against, textAgainst}
+use Rattle.roundtrip.specs.Comparing.{refused, answer, none, against, textAgainst, allRoom, comparedAs, compareOf}
 use Rattle.roundtrip.specs.Steps.{agreement}
 use Rattle.roundtrip.specs.declared.Compared.{Compared}
 use Rattle.roundtrip.specs.declared.comparing.Agreement.{Agreement}
-use Rattle.roundtrip.proofs.Agreeing.{accepted-inside}
+use Rattle.roundtrip.proofs.Demand.{entries-many}
 
 -- ---- what the run reader answers
 read-near : (text : List ℕ) (at room : ℕ) → Near (readRunOf text at room)
@@ -108,18 +113,15 @@ module _ (text d : List ℕ) (r : Run) (e : List ℕ) (room : 65536 ≤ length d
           broken z (read-run-only w (held-refused text z .here d) .0)
 
 -- ---- the comparison with it
--- a run of no refusal and no instruction has no byte
-nothing-from : (l : List ℕ) (from : Origin) → allAgree (runFrom 0 l from) [] ≡ eqb (length l) 0
-unfolding runFrom
-nothing-from [] from = refl
-nothing-from (b ∷ l) from =
-    by-pick (λ (ds : List Decoded). allAgree ds [] ≡ false) (eqb (frontOf (b ∷ l) from .refusal) 0) refl refl
-    ∙ sym (ne-eqb (length (b ∷ l)) 0 (λ n. omega arith))
+-- nothing agrees with no instruction but a list with no row
+nothing-agrees : (means : List Decoded) → allAgree means [] ≡ eqb (length means) 0
+nothing-agrees [] = refl
+nothing-agrees (d ∷ ds) = sym (ne-eqb (length (d ∷ ds)) 0 (λ n. omega arith))
 
-nothing-means : (ours : List ℕ) (from : Origin) → refusalIn (runOf ours from) ≡ 0 → allAgree (runOf ours from) [] ≡ eqb (length ours) 0
-unfolding runOf
-nothing-means ours from z =
-    ap (λ (ds : List Decoded). allAgree ds []) (pick-false _ _ (accepted-inside ours from z)) ∙ nothing-from ours from
+nothing-means : (list : List ℕ) (address : ℕ) → allAgree (meaningsFrom (entriesOf list) address) [] ≡ eqb (length list / 21) 0
+unfolding rowsIn
+nothing-means list address =
+    nothing-agrees (meaningsFrom (entriesOf list) address) ∙ ap (λ (n : ℕ). eqb n 0) (as-many (entriesOf list) address ∙ entries-many list)
 
 module _ (text d : List ℕ) (r : Run) (e : List ℕ) where
   -- no refusal, so one of the other two
@@ -141,22 +143,22 @@ module _ (text d : List ℕ) (r : Run) (e : List ℕ) where
       let s = ap length (t .stored) in
       omega (arith, t .size, length-append (t .run .bytes) (drop (length (t .run .bytes)) d))
 
-  pub run-inside : (address : ℕ) → First text d r e → r .refusal ≡ 0 → (r .bytes ≡ 0 → ⊥) → r .address ≡ address → outside (take (r .bytes) e) (origin address) ≡ false
+  pub run-inside : (address : ℕ) (page : Page) → First text d r e → r .refusal ≡ 0 → (r .bytes ≡ 0 → ⊥) → r .address ≡ address → outside (take (r .bytes) e) (origin address page) ≡ false
   unfolding outside
-  run-inside address w z n k =
+  run-inside address page w z n k =
       by-run w z (λ _ _ b. absurd (n b))
       (λ m t. rw (front-holds t) (le-ltb 65536 (address + length (t .run .bytes)) (omega (arith, t .near, t .address))))
 
-module _ (ours : List ℕ) (address : ℕ) (text d : List ℕ) (r : Run) (e : List ℕ) where
+module _ (list : List ℕ) (address : ℕ) (page : Page) (text d : List ℕ) (r : Run) (e : List ℕ) where
   abbrev means : List Decoded
-  means = runOf ours (origin address)
+  means = meaningsFrom (entriesOf list) address
 
   abbrev Is : Compared → Type 0
-  Is x = x ≡ textAgainst means address text
+  Is x = x ≡ textAgainst means address page text
 
-  fine : (rs : List Rec) → sizeOf (recordsIn text) .refusal ≡ 0 → runsIn text ≡ rs → textAgainst means address text ≡ against means address rs
+  fine : (rs : List Rec) → sizeOf (recordsIn text) .refusal ≡ 0 → runsIn text ≡ rs → textAgainst means address page text ≡ against means address page rs
   unfolding textAgainst
-  fine rs z q = pick-true _ _ (eq-eqb (sizeOf (recordsIn text) .refusal) 0 z) ∙ ap (against means address) q
+  fine rs z q = pick-true _ _ (eq-eqb (sizeOf (recordsIn text) .refusal) 0 z) ∙ ap (against means address page) q
 
   pub is-refused : First text d r e → (r .refusal ≡ 0 → ⊥) → Is (refused (r .refusal))
   unfolding textAgainst
@@ -164,10 +166,10 @@ module _ (ours : List ℕ) (address : ℕ) (text d : List ℕ) (r : Run) (e : Li
   is-refused (empty n q k) z = absurd (z (ap (λ (x : Run). x .refusal) k))
   is-refused (there n t) z = absurd (z (t .accepted))
 
-  pub is-none : refusalIn means ≡ 0 → First text d r e → r .refusal ≡ 0 → r .bytes ≡ 0 → Is (answer (eqb (length ours) 0) 0)
-  is-none a w z n =
+  pub is-none : First text d r e → r .refusal ≡ 0 → r .bytes ≡ 0 → Is (answer (eqb (length list / 21) 0) 0)
+  is-none w z n =
       by-run text d r e w z
-      (λ m q _. ap (λ (t : Bool). answer t 0) (sym (nothing-means ours (origin address) a)) ∙ sym (fine [] m q))
+      (λ m q _. ap (λ (t : Bool). answer t 0) (sym (nothing-means list address)) ∙ sym (fine [] m q))
       (λ m t. absurd (omega (arith, t .some, t .size)))
 
   pub is-elsewhere : First text d r e → r .refusal ≡ 0 → (r .bytes ≡ 0 → ⊥) → (r .address ≡ address → ⊥) → Is (answer false 0)
@@ -177,11 +179,30 @@ module _ (ours : List ℕ) (address : ℕ) (text d : List ℕ) (r : Run) (e : Li
 
   pub is-there :
       First text d r e → r .refusal ≡ 0 → (r .bytes ≡ 0 → ⊥) → r .address ≡ address →
-      (a : Agreement) → a ≡ agreement means (runOf (take (r .bytes) e) (origin address)) → (later : Run) → later ≡ askedOf text (r .next) →
+      (a : Agreement) → a ≡ agreement means (runOf (take (r .bytes) e) (origin address page)) → (later : Run) → later ≡ askedOf text (r .next) →
       Is (answer (a .all && eqb (later .bytes) 0) (a .place))
   is-there w z n k a f later g =
       by-run text d r e w z (λ _ _ b. absurd (n b))
       (λ m t.
-      let is : a ≡ agreement means (runOf (t .run .bytes) (origin address)) = f ∙ ap (λ (l : List ℕ). agreement means (runOf l (origin address))) (front-holds text d r e t) in
+      let is : a ≡ agreement means (runOf (t .run .bytes) (origin address page)) = f ∙ ap (λ (l : List ℕ). agreement means (runOf l (origin address page))) (front-holds text d r e t) in
       let last : eqb (later .bytes) 0 ≡ none (t .later) = ap (λ (x : Run). eqb (x .bytes) 0) g ∙ t .alone in
       rw (is, last) (sym (fine (t .run ∷ t .later) m (t .runs) ∙ pick-true _ _ (eq-eqb (t .run .address) address (sym (t .address) ∙ k)))))
+
+-- ---- the list's own refusal comes before
+module _ (list : List ℕ) (address : ℕ) (page : Page) (text : List ℕ) where
+  abbrev comparedBy : Outcome → Compared
+  comparedBy o = comparedAs o (meaningsFrom (entriesOf list) address) address page text
+
+  pub list-refused : (r : Laid) → r ≡ answerOf (layOf list address allRoom) → (r .refusal ≡ 0 → ⊥) → refused (r .refusal) ≡ compareOf list address page text
+  unfolding compareOf
+  list-refused r = go (layOf list address allRoom)
+    where
+      go : (o : Outcome) → r ≡ answerOf o → (r .refusal ≡ 0 → ⊥) → refused (r .refusal) ≡ comparedBy o
+      go (Refused n) a z = ap (λ (x : Laid). refused (x .refusal)) a
+      go (Bytes bytes) a z = absurd (z (ap (λ (x : Laid). x .refusal) a))
+
+  pub list-laid :
+      (r : Laid) → address ≤ 65536 → r ≡ answerOf (layOf list address allRoom) → r .refusal ≡ 0 →
+      textAgainst (meaningsFrom (entriesOf list) address) address page text ≡ compareOf list address page text
+  unfolding compareOf
+  list-laid r h a z = sym (ap comparedBy (zero-exactly list address allRoom h (sym (ap (λ (x : Laid). x .refusal) a) ∙ z)))

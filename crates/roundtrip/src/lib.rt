@@ -3,8 +3,9 @@ mod alike;
 mod comparing;
 mod writing;
 
-use comparing::compare_laid;
+use comparing::compare_list;
 use records::Written;
+use values::pages::Page;
 use writing::write_laid;
 ghost use mathlib.Core.Path.{_≡_};
 ghost use lib.ListN.{length};
@@ -18,19 +19,18 @@ pub struct Compared {
     pub place: usize,
 }
 
-// Whether the text's one run starts at the address and decodes to the lengths and meanings of the list; where not, `place` is the first that differs.
-// Refused as laying with room enough refuses the list, then as the reader refuses the text. At most 1,024 instructions of five bytes are laid, and a run
-// has at most 65,536.
-pub fn compare(list: &[u16], address: u16, text: &[u8]) -> Compared
-    ensures { λ r. ⌜ r ≡ compareOf (now (list .entry)) address (now (text .entry)) ⌝ }
+// Whether the text's one run starts at the address and decodes under the page to the lengths and meanings of the list, under whatever pages its records were
+// made; where not, `place` is the first that differs. Refused as laying with room enough refuses the list, then as the reader refuses the text. A run has at
+// most 65,536 bytes.
+pub fn compare(list: &[u16], address: u16, page: Page, text: &[u8]) -> Compared
+    ensures { λ r. ⌜ r ≡ compareOf (now (list .entry)) address page (now (text .entry)) ⌝ }
 {
-    let mut ours = [0u8; 5120];
     let mut theirs = [0u8; 65536];
-    compare_laid(list, address, text, &mut ours, &mut theirs)
+    compare_list(list, address, page, text, &mut theirs)
 }
 
 // Lays the list and writes its text to the front of a buffer. Refused as laying refuses it, then 9 where the buffer is too short; the buffer is then as it
-// was.
+// was. At most 1,024 instructions of five bytes are laid.
 pub fn lay_text(list: &[u16], address: u16, out: &mut [u8]) -> Written
     ensures answer { λ r. ⌜ r ≡ laidText (now (list .entry)) address (length (now (out .entry))) ⌝ }
     ensures buffer { λ _. ⌜ now (out .exit) ≡ laidBuffer (now (list .entry)) address (now (out .entry)) ⌝ }
