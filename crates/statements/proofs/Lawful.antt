@@ -9,6 +9,7 @@ use lib.Dec.{eqb, ltb}
 use borrow.Author.Tests.{ltb-true, lt-ltb}
 use Rattle.ground.proofs.Choices.{by-test, by-pick}
 use Rattle.values.specs.declared.Value.{Value}
+use Rattle.values.specs.declared.pages.Page.{Page}
 use Rattle.values.specs.Widths.{bitsOf, widenedOf}
 use Rattle.expressions.specs.declared.Answer.{Answer}
 use Rattle.expressions.specs.Finding.{deepest, nodeValue}
@@ -20,7 +21,7 @@ use Rattle.records.proofs.ByteRows.{bytes-good}
 use Rattle.entries.proofs.Small.{fresh-bytes}
 use Rattle.instruction.specs.Building.{bytesIn, freshOf}
 use Rattle.statements.specs.declared.Statement.{Statement}
-use Rattle.statements.specs.declared.Statement.the-variants.{Label, Instruction, Rmb, Fcb, Fdb, Fcc, Org, Unknown}
+use Rattle.statements.specs.declared.Statement.the-variants.{Label, Instruction, Rmb, Fcb, Fdb, Fcc, Org, Setdp, Unknown}
 use Rattle.statements.specs.declared.Entry.{Entry}
 use Rattle.statements.specs.declared.Datum.{Datum}
 use Rattle.statements.specs.declared.Datum.the-variants.{Byte, Word, Character}
@@ -98,28 +99,29 @@ module _ (ns ls : List ℕ) (nodes-fit : Cells Short ns) (labels-fit : Cells Sho
       (datum-fits kind here (itemAt items first) h z, answers-fit kind items here (first + 1) n h zs)
 
   values-good :
-      (s : Statement) (e : Entry) (items : List ℕ) (here : ℕ) (dirty ill : Bool) → Short here →
-      effectOf s e items ns ls here dirty ill .refusal ≡ 0 →
-      badValues (valuesOf s e items ns ls here dirty) ≡ false
+      (s : Statement) (e : Entry) (items : List ℕ) (here : ℕ) (page : Page) (ill : Bool) → Short here →
+      effectOf s e items ns ls here page ill .refusal ≡ 0 →
+      badValues (valuesOf s e items ns ls here page) ≡ false
   unfolding builtOf
-  values-good Label e items here dirty ill h z = refl
-  values-good (Instruction node) e items here dirty ill h z =
-      let r = recordOf e (askedOf ns ls node here) dirty in
+  values-good Label e items here page ill h z = refl
+  values-good (Instruction node) e items here page ill h z =
+      let r = recordOf e (askedOf ns ls node here) page in
       bytes-good (bytesIn (freshOf r here)) (fresh-bytes r here)
-  values-good (Rmb node) e items here dirty ill h z = refl
-  values-good (Fcb first n) e items here dirty ill h z =
+  values-good (Rmb node) e items here page ill h z = refl
+  values-good (Fcb first n) e items here page ill h z =
       rows-good (answersFrom Byte items ns ls here first n) (answers-fit Byte items here first n h (data-none Byte items ns ls here first n ill z))
-  values-good (Fdb first n) e items here dirty ill h z =
+  values-good (Fdb first n) e items here page ill h z =
       rows-good (answersFrom Word items ns ls here first n) (answers-fit Word items here first n h (data-none Word items ns ls here first n ill z))
-  values-good (Fcc first n) e items here dirty ill h z =
+  values-good (Fcc first n) e items here page ill h z =
       rows-good (answersFrom Character items ns ls here first n) (answers-fit Character items here first n h (data-none Character items ns ls here first n ill z))
-  values-good (Org node) e items here dirty ill h z = refl
-  values-good Unknown e items here dirty ill h z = refl
+  values-good (Org node) e items here page ill h z = refl
+  values-good (Setdp number) e items here page ill h z = refl
+  values-good Unknown e items here page ill h z = refl
 
   -- the rows of an accepted statement's values are rows that the writer takes
   pub values-lawful :
-      (list items : List ℕ) (i here : ℕ) (dirty ill : Bool) → Short here →
-      effectAt list items ns ls i here dirty ill .refusal ≡ 0 →
-      badValues (valuesAt list items ns ls i here dirty) ≡ false
+      (list items : List ℕ) (i here : ℕ) (page : Page) (ill : Bool) → Short here →
+      effectAt list items ns ls i here page ill .refusal ≡ 0 →
+      badValues (valuesAt list items ns ls i here page) ≡ false
   unfolding effectAt valuesAt
-  values-lawful list items i here dirty ill = values-good (statementAt list i) (entryAt list i) items here dirty ill
+  values-lawful list items i here page ill = values-good (statementAt list i) (entryAt list i) items here page ill

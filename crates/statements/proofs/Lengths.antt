@@ -1,7 +1,6 @@
 -- How long the rows of a statement's values are: two numbers to a value.
 -- Assumes nothing.
 use mathlib.Core.Path.{_≡_, refl, sym, ap, _∙_}
-use mathlib.Core.Bool.{Bool}
 use mathlib.Core.List.{List, [], _∷_}
 use Prim.Native.Nat.{ℕ, zero, suc, _+_, _*_, _≤_, min}
 use native.Mathlib.Nat.{min-eq-left, min-eq-right}
@@ -12,10 +11,11 @@ use borrow.Author.Tests.{leb-true, leb-false}
 use Rattle.ground.specs.Stores.{put}
 use Rattle.ground.proofs.Stores.{put-past}
 use Rattle.ground.proofs.Choices.{by-test}
+use Rattle.values.specs.declared.pages.Page.{Page}
 use Rattle.expressions.specs.declared.Answer.{Answer}
 use Rattle.instruction.specs.Building.{bytesIn}
 use Rattle.statements.specs.declared.Statement.{Statement}
-use Rattle.statements.specs.declared.Statement.the-variants.{Label, Instruction, Rmb, Fcb, Fdb, Fcc, Org, Unknown}
+use Rattle.statements.specs.declared.Statement.the-variants.{Label, Instruction, Rmb, Fcb, Fdb, Fcc, Org, Setdp, Unknown}
 use Rattle.statements.specs.declared.Entry.{Entry}
 use Rattle.statements.specs.declared.Datum.{Datum}
 use Rattle.statements.specs.declared.Datum.the-variants.{Byte, Word, Character}
@@ -44,23 +44,24 @@ data-count kind items ns ls here first n =
 pub byte-count : (bytes : List ℕ) → length bytes ≡ countIn (byteRows bytes)
 byte-count bytes = omega (arith, byte-rows-length bytes)
 
-values-even : (s : Statement) (e : Entry) (items ns ls : List ℕ) (here : ℕ) (dirty : Bool) →
-    length (valuesOf s e items ns ls here dirty) ≡ 2 * countIn (valuesOf s e items ns ls here dirty)
-values-even Label e items ns ls here dirty = refl
-values-even (Instruction node) e items ns ls here dirty =
-    omega (arith, byte-rows-length (bytesIn (builtOf e (askedOf ns ls node here) dirty here)))
-values-even (Rmb node) e items ns ls here dirty = refl
-values-even (Fcb first n) e items ns ls here dirty = omega (arith, rows-length (answersFrom Byte items ns ls here first n))
-values-even (Fdb first n) e items ns ls here dirty = omega (arith, rows-length (answersFrom Word items ns ls here first n))
-values-even (Fcc first n) e items ns ls here dirty = omega (arith, rows-length (answersFrom Character items ns ls here first n))
-values-even (Org node) e items ns ls here dirty = refl
-values-even Unknown e items ns ls here dirty = refl
+values-even : (s : Statement) (e : Entry) (items ns ls : List ℕ) (here : ℕ) (page : Page) →
+    length (valuesOf s e items ns ls here page) ≡ 2 * countIn (valuesOf s e items ns ls here page)
+values-even Label e items ns ls here page = refl
+values-even (Instruction node) e items ns ls here page =
+    omega (arith, byte-rows-length (bytesIn (builtOf e (askedOf ns ls node here) page here)))
+values-even (Rmb node) e items ns ls here page = refl
+values-even (Fcb first n) e items ns ls here page = omega (arith, rows-length (answersFrom Byte items ns ls here first n))
+values-even (Fdb first n) e items ns ls here page = omega (arith, rows-length (answersFrom Word items ns ls here first n))
+values-even (Fcc first n) e items ns ls here page = omega (arith, rows-length (answersFrom Character items ns ls here first n))
+values-even (Org node) e items ns ls here page = refl
+values-even (Setdp number) e items ns ls here page = refl
+values-even Unknown e items ns ls here page = refl
 
 -- a row of two for each value
-pub values-length : (list items ns ls : List ℕ) (i here : ℕ) (dirty : Bool) →
-    length (valuesAt list items ns ls i here dirty) ≡ 2 * countIn (valuesAt list items ns ls i here dirty)
+pub values-length : (list items ns ls : List ℕ) (i here : ℕ) (page : Page) →
+    length (valuesAt list items ns ls i here page) ≡ 2 * countIn (valuesAt list items ns ls i here page)
 unfolding valuesAt
-values-length list items ns ls i here dirty = values-even (statementAt list i) (entryAt list i) items ns ls here dirty
+values-length list items ns ls i here page = values-even (statementAt list i) (entryAt list i) items ns ls here page
 
 -- ---- storing past the end
 -- stores nothing, wherever past the end it is

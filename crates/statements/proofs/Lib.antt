@@ -8,6 +8,7 @@ pub mod Told
 pub mod Refuses
 pub mod Passed
 pub mod Accepted
+pub mod Pages
 pub mod Small
 pub mod Sizes
 pub mod Lawful

@@ -15,6 +15,8 @@ use Rattle.statements.proofs.listing.overfull.Kinds as overfull-kinds
 use Rattle.statements.proofs.listing.overfull.Reads as overfull
 use Rattle.statements.proofs.listing.object_kind.Kinds as object-kind-kinds
 use Rattle.statements.proofs.listing.object_kind.Reads as object-kind
+use Rattle.statements.proofs.Turn.turns.Kinds as turns-kinds
+use Rattle.statements.proofs.Turn.turns.Reads as turns
 use Rattle.statements.proofs.effects.effect.Kinds as effect-kinds
 use Rattle.statements.proofs.effects.effect.Reads as effect
 use Rattle.statements.proofs.effects.counted.Kinds as counted-kinds
@@ -41,6 +43,9 @@ overfull-single κs a x y s t p q = p ∙ sym q
 
 pub object-kind-single : Single 0 object-kind-kinds.ps object-kind-kinds.r object-kind.Post
 object-kind-single κs a x y s t p q = p ∙ sym q
+
+pub turns-single : Single 0 turns-kinds.ps turns-kinds.r turns.Post
+turns-single κs a x y s t p q = p ∙ sym q
 
 pub effect-single : Single 4 effect-kinds.ps effect-kinds.r effect.Post
 effect-single κs a x y s t p q = p ∙ sym q

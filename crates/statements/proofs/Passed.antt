@@ -12,6 +12,7 @@ use Rattle.ground.specs.Choice.{pick}
 use Rattle.ground.specs.Refusals.{badLabel, tooDeep}
 use Rattle.ground.proofs.Choices.{by-test, by-pick}
 use Rattle.values.specs.declared.Value.{Value}
+use Rattle.values.specs.declared.pages.Page.{Page}
 use Rattle.values.specs.Widths.{validOf}
 use Rattle.expressions.specs.declared.finding.Found.{Found}
 use Rattle.expressions.specs.declared.Evaluated.{Evaluated}
@@ -83,33 +84,33 @@ module _ (ns ls : List ℕ) (nodes-fit : Cells Short ns) (labels-fit : Cells Sho
 
   -- the build of an operand that passed, with its values evaluated
   pub built-late :
-      (e : Entry) (node : ℕ) (dirty : Bool) (here : ℕ) → Short here → entryRefusal e ≡ 0 → askedOf ns ls node here .refusal ≡ 0 →
-      Late (builtOf e (askedOf ns ls node here) dirty here .refusal)
+      (e : Entry) (node : ℕ) (page : Page) (here : ℕ) → Short here → entryRefusal e ≡ 0 → askedOf ns ls node here .refusal ≡ 0 →
+      Late (builtOf e (askedOf ns ls node here) page here .refusal)
   unfolding builtOf entryRefusal
-  built-late e node dirty here h z y = fresh-late (recordOf e (askedOf ns ls node here) dirty) here z (asked-lawful node here h y)
+  built-late e node page here h z y = fresh-late (recordOf e (askedOf ns ls node here) page) here z (asked-lawful node here h y)
 
   instruction-after :
-      (e : Entry) (node : ℕ) (dirty ill : Bool) (here : ℕ) → Short here → entryRefusal e ≡ 0 →
-      After (instructionRefusal e (askedOf ns ls node here) ill (builtOf e (askedOf ns ls node here) dirty here))
+      (e : Entry) (node : ℕ) (page : Page) (ill : Bool) (here : ℕ) → Short here → entryRefusal e ≡ 0 →
+      After (instructionRefusal e (askedOf ns ls node here) ill (builtOf e (askedOf ns ls node here) page here))
   unfolding instructionRefusal
-  instruction-after e node dirty ill here h z =
+  instruction-after e node page ill here h z =
       let r = askedOf ns ls node here .refusal in
       let known = asked-known ns ls node here in
       by-test After (eqb (entryRefusal e) 0)
       (λ _. by-test After (eqb (earlier r (ownLabel ill)) 0)
-      (λ q. inl (built-late e node dirty here h z (neither r (ownLabel ill) (known-ordered r known) (label-ordered ill) (eqb-true _ 0 q) .0)))
+      (λ q. inl (built-late e node page here h z (neither r (ownLabel ill) (known-ordered r known) (label-ordered ill) (eqb-true _ 0 q) .0)))
       (λ _. values-after r ill known))
       (λ q. absurd (eqb-false (entryRefusal e) 0 q z))
 
   -- so the statement is refused neither 1 nor 2, where the tables hold numbers of 16 bits
   pub operand-passed :
-      (list items : List ℕ) (i node here : ℕ) (dirty ill : Bool) → Short here →
+      (list items : List ℕ) (i node here : ℕ) (page : Page) (ill : Bool) → Short here →
       statementAt list i ≡ Instruction node → entryRefusal (entryAt list i) ≡ 0 →
-      After (effectAt list items ns ls i here dirty ill .refusal)
+      After (effectAt list items ns ls i here page ill .refusal)
   unfolding effectAt instructionEffect
-  operand-passed list items i node here dirty ill h s z =
+  operand-passed list items i node here page ill h s z =
       let e = entryAt list i in
       let a = askedOf ns ls node here in
       rw s
-      (by-pick (λ (x : Effect). After (x .refusal)) (eqb (instructionRefusal e a ill (builtOf e a dirty here)) 0) (inl (inl refl))
-      (instruction-after e node dirty ill here h z))
+      (by-pick (λ (x : Effect). After (x .refusal)) (eqb (instructionRefusal e a ill (builtOf e a page here)) 0) (inl (inl refl))
+      (instruction-after e node page ill here h z))

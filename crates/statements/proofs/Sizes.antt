@@ -13,6 +13,7 @@ use Rattle.ground.specs.Choice.{pick}
 use Rattle.ground.specs.Refusals.{beyond}
 use Rattle.ground.proofs.Choices.{by-test, by-pick}
 use Rattle.values.specs.declared.Value.{Value}
+use Rattle.values.specs.declared.pages.Page.{Page}
 use Rattle.rows.specs.Lookup.{knownOf}
 use Rattle.rows.specs.Sizes.{smallestSizeOf}
 use Rattle.rows.proofs.Lengths.{size-known, size-unknown}
@@ -26,7 +27,7 @@ use Rattle.expressions.specs.Answers.{narrowOf, valueOf, answerOf, evaluation}
 use Rattle.expressions.proofs.Fits.{node-fits}
 use Rattle.instruction.specs.Building.{bytesIn}
 use Rattle.statements.specs.declared.Statement.{Statement}
-use Rattle.statements.specs.declared.Statement.the-variants.{Label, Instruction, Rmb, Fcb, Fdb, Fcc, Org, Unknown}
+use Rattle.statements.specs.declared.Statement.the-variants.{Label, Instruction, Rmb, Fcb, Fdb, Fcc, Org, Setdp, Unknown}
 use Rattle.statements.specs.declared.Entry.{Entry}
 use Rattle.statements.specs.declared.Datum.{Datum}
 use Rattle.statements.specs.declared.Datum.the-variants.{Byte, Word, Character}
@@ -34,7 +35,7 @@ use Rattle.statements.specs.declared.Effect.{Effect}
 use Rattle.entries.specs.Entries.{byteIn}
 use Rattle.statements.specs.Listing.{none, statementAt, operandRow, entryIn, entryAt, itemsOf, overfullAt, objectOf}
 use Rattle.statements.specs.Asking.{askedOf, wantedOf, answersFrom, rowsIn}
-use Rattle.statements.specs.Effects.{builtOf, instructionRefusal, instructionEffect, numberRefusal, reservedEffect, originEffect, dataRefusal, effectOf, effectAt, countedOf}
+use Rattle.statements.specs.Effects.{builtOf, instructionRefusal, instructionEffect, numberRefusal, reservedEffect, originEffect, setdpEffect, dataRefusal, effectOf, effectAt, countedOf}
 use Rattle.statements.specs.Objects.{valuesOf, valuesAt, bytesAt}
 use Rattle.statements.proofs.Lengths.{answers-length}
 use Rattle.statements.proofs.Built.{built-five, built-bytes}
@@ -67,33 +68,34 @@ data-bytes kind size h items ns ls here first n ill e =
     ∙ ap (λ (k : ℕ). size * k) (answers-length kind items ns ls here first n)
 
 bytes-counted :
-    (s : Statement) (e : Entry) (items ns ls : List ℕ) (here : ℕ) (dirty ill : Bool) →
+    (s : Statement) (e : Entry) (items ns ls : List ℕ) (here : ℕ) (page : Page) (ill : Bool) →
     objectOf s ≡ 1 →
-    effectOf s e items ns ls here dirty ill .refusal ≡ 0 →
-    length (dataOf (valuesOf s e items ns ls here dirty)) ≡ effectOf s e items ns ls here dirty ill .size
+    effectOf s e items ns ls here page ill .refusal ≡ 0 →
+    length (dataOf (valuesOf s e items ns ls here page)) ≡ effectOf s e items ns ls here page ill .size
 unfolding bytesOf pick builtOf
-bytes-counted Label e items ns ls here dirty ill o z = absurd (omega arith)
-bytes-counted (Instruction node) e items ns ls here dirty ill o z =
-    byte-data-length (bytesIn (builtOf e (askedOf ns ls node here) dirty here))
-    ∙ built-bytes e (askedOf ns ls node here) dirty here
-    ∙ sym (instruction-fresh node e items ns ls here dirty ill z .counted)
-bytes-counted (Rmb node) e items ns ls here dirty ill o z = absurd (omega arith)
-bytes-counted (Fcb first n) e items ns ls here dirty ill o z =
+bytes-counted Label e items ns ls here page ill o z = absurd (omega arith)
+bytes-counted (Instruction node) e items ns ls here page ill o z =
+    byte-data-length (bytesIn (builtOf e (askedOf ns ls node here) page here))
+    ∙ built-bytes e (askedOf ns ls node here) page here
+    ∙ sym (instruction-fresh node e items ns ls here page ill z .counted)
+bytes-counted (Rmb node) e items ns ls here page ill o z = absurd (omega arith)
+bytes-counted (Fcb first n) e items ns ls here page ill o z =
     data-bytes Byte 1 (λ _. refl) items ns ls here first n ill z ∙ omega arith
-bytes-counted (Fdb first n) e items ns ls here dirty ill o z = data-bytes Word 2 (λ _. refl) items ns ls here first n ill z
-bytes-counted (Fcc first n) e items ns ls here dirty ill o z =
+bytes-counted (Fdb first n) e items ns ls here page ill o z = data-bytes Word 2 (λ _. refl) items ns ls here first n ill z
+bytes-counted (Fcc first n) e items ns ls here page ill o z =
     data-bytes Character 1 (λ _. refl) items ns ls here first n ill z ∙ omega arith
-bytes-counted (Org node) e items ns ls here dirty ill o z = absurd (omega arith)
-bytes-counted Unknown e items ns ls here dirty ill o z = absurd (omega arith)
+bytes-counted (Org node) e items ns ls here page ill o z = absurd (omega arith)
+bytes-counted (Setdp number) e items ns ls here page ill o z = absurd (omega arith)
+bytes-counted Unknown e items ns ls here page ill o z = absurd (omega arith)
 
 -- an instruction, FCB, FDB or FCC that is accepted has as many bytes as it counts
 pub sizes :
-    (list items ns ls : List ℕ) (i here : ℕ) (dirty ill : Bool) →
+    (list items ns ls : List ℕ) (i here : ℕ) (page : Page) (ill : Bool) →
     objectOf (statementAt list i) ≡ 1 →
-    effectAt list items ns ls i here dirty ill .refusal ≡ 0 →
-    length (bytesAt list items ns ls i here dirty) ≡ effectAt list items ns ls i here dirty ill .size
+    effectAt list items ns ls i here page ill .refusal ≡ 0 →
+    length (bytesAt list items ns ls i here page) ≡ effectAt list items ns ls i here page ill .size
 unfolding effectAt valuesAt
-sizes list items ns ls i here dirty ill = bytes-counted (statementAt list i) (entryAt list i) items ns ls here dirty ill
+sizes list items ns ls i here page ill = bytes-counted (statementAt list i) (entryAt list i) items ns ls here page ill
 
 -- ---- every size fits
 pub wanted-fits :
@@ -120,35 +122,37 @@ unfolding byteIn
 byte-fits row at = by-test (λ (n : ℕ). n < 256) (ltb (getD row at 0) 256) (λ q. ltb-true (getD row at 0) 256 q) (λ _. omega arith)
 
 size-fits :
-    (s : Statement) (e : Entry) (items ns ls : List ℕ) → Cells Short ns → Cells Short ls → (here : ℕ) (dirty ill : Bool) → Short here →
+    (s : Statement) (e : Entry) (items ns ls : List ℕ) → Cells Short ns → Cells Short ls → (here : ℕ) (page : Page) (ill : Bool) → Short here →
     e .operation < 256 →
     itemsOf s ≤ 256 →
-    effectOf s e items ns ls here dirty ill .size < 65536
-unfolding instructionEffect reservedEffect originEffect
-size-fits Label e items ns ls hn hl here dirty ill h o n = omega arith
-size-fits (Instruction node) e items ns ls hn hl here dirty ill h o n =
-    let b = builtOf e (askedOf ns ls node here) dirty here in
-    let five = built-five e (askedOf ns ls node here) dirty here .most in
+    effectOf s e items ns ls here page ill .size < 65536
+unfolding instructionEffect reservedEffect originEffect setdpEffect
+size-fits Label e items ns ls hn hl here page ill h o n = omega arith
+size-fits (Instruction node) e items ns ls hn hl here page ill h o n =
+    let b = builtOf e (askedOf ns ls node here) page here in
+    let five = built-five e (askedOf ns ls node here) page here .most in
     let least = smallest-fits (e .operation) o in
     by-pick (λ (x : Effect). x .size < 65536) (eqb (instructionRefusal e (askedOf ns ls node here) ill b) 0) (omega arith) (omega arith)
-size-fits (Rmb node) e items ns ls hn hl here dirty ill h o n =
+size-fits (Rmb node) e items ns ls hn hl here page ill h o n =
     by-pick (λ (x : Effect). x .size < 65536) (eqb (numberRefusal (wantedOf ns ls node here) ill) 0)
     (wanted-fits ns ls hn hl node here h) (omega arith)
-size-fits (Fcb first count) e items ns ls hn hl here dirty ill h o n = omega arith
-size-fits (Fdb first count) e items ns ls hn hl here dirty ill h o n = omega arith
-size-fits (Fcc first count) e items ns ls hn hl here dirty ill h o n = omega arith
-size-fits (Org node) e items ns ls hn hl here dirty ill h o n =
+size-fits (Fcb first count) e items ns ls hn hl here page ill h o n = omega arith
+size-fits (Fdb first count) e items ns ls hn hl here page ill h o n = omega arith
+size-fits (Fcc first count) e items ns ls hn hl here page ill h o n = omega arith
+size-fits (Org node) e items ns ls hn hl here page ill h o n =
     by-pick (λ (x : Effect). x .size < 65536) (eqb (numberRefusal (wantedOf ns ls node 0) ill) 0) (omega arith) (omega arith)
-size-fits Unknown e items ns ls hn hl here dirty ill h o n = omega arith
+size-fits (Setdp number) e items ns ls hn hl here page ill h o n =
+    by-pick (λ (x : Effect). x .size < 65536) (ltb number 256) (by-pick (λ (x : Effect). x .size < 65536) ill (omega arith) (omega arith)) (omega arith)
+size-fits Unknown e items ns ls hn hl here page ill h o n = omega arith
 
 -- a statement that is not overfull counts less than 65536, where the tables hold numbers of 16 bits
 pub sizes-fit :
-    (list items ns ls : List ℕ) → Cells Short ns → Cells Short ls → (i here : ℕ) (dirty ill : Bool) → Short here →
+    (list items ns ls : List ℕ) → Cells Short ns → Cells Short ls → (i here : ℕ) (page : Page) (ill : Bool) → Short here →
     overfullAt list i ≡ false →
-    effectAt list items ns ls i here dirty ill .size < 65536
+    effectAt list items ns ls i here page ill .size < 65536
 unfolding effectAt entryAt entryIn overfullAt
-sizes-fit list items ns ls hn hl i here dirty ill h o =
-    size-fits (statementAt list i) (entryAt list i) items ns ls hn hl here dirty ill h (byte-fits (operandRow list i) 0)
+sizes-fit list items ns ls hn hl i here page ill h o =
+    size-fits (statementAt list i) (entryAt list i) items ns ls hn hl here page ill h (byte-fits (operandRow list i) 0)
     (ltb-false 256 (itemsOf (statementAt list i)) o)
 
 -- ---- at a running address

@@ -1,9 +1,9 @@
 -- The bytes of an instruction, as values of 8 bits, are its bytes again.
 -- Assumes nothing.
 use mathlib.Core.Path.{_≡_}
-use mathlib.Core.Bool.{Bool}
 use mathlib.Core.List.{List}
 use Prim.Native.Nat.{ℕ}
+use Rattle.values.specs.declared.pages.Page.{Page}
 use Rattle.records.specs.Objects.{dataOf}
 use Rattle.records.proofs.ByteRows.{byte-data}
 use Rattle.instruction.specs.Building.{freshOf, bytesIn}
@@ -16,9 +16,9 @@ use Rattle.statements.specs.Objects.{valuesOf}
 
 -- an instruction's bytes are those of the fresh build of its record, with its values evaluated
 pub instruction-bytes :
-    (ns ls : List ℕ) (node : ℕ) (e : Entry) (items : List ℕ) (here : ℕ) (dirty : Bool) →
-    dataOf (valuesOf (Instruction node) e items ns ls here dirty) ≡ bytesIn (freshOf (recordOf e (askedOf ns ls node here) dirty) here)
+    (ns ls : List ℕ) (node : ℕ) (e : Entry) (items : List ℕ) (here : ℕ) (page : Page) →
+    dataOf (valuesOf (Instruction node) e items ns ls here page) ≡ bytesIn (freshOf (recordOf e (askedOf ns ls node here) page) here)
 unfolding builtOf
-instruction-bytes ns ls node e items here dirty =
-    let r = recordOf e (askedOf ns ls node here) dirty in
+instruction-bytes ns ls node e items here page =
+    let r = recordOf e (askedOf ns ls node here) page in
     byte-data (bytesIn (freshOf r here)) (fresh-bytes r here)

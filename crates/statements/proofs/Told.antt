@@ -10,6 +10,7 @@ use lib.Dec.{eqb}
 use borrow.Author.Tests.{eqb-true, eqb-false}
 use Rattle.ground.specs.Choice.{pick}
 use Rattle.ground.proofs.Choices.{by-test}
+use Rattle.values.specs.declared.pages.Page.{Page}
 use Rattle.records.specs.Fine.{Each}
 use Rattle.expressions.specs.declared.Answer.{Answer}
 use Rattle.instruction.specs.declared.Built.{Built}
@@ -18,6 +19,7 @@ use Rattle.statements.specs.declared.Statement.the-variants.{Instruction
 use Rattle.statements.specs.declared.Entry.{Entry}
 use Rattle.statements.specs.declared.Asked.{Asked}
 use Rattle.statements.specs.declared.Datum.{Datum}
+use Rattle.statements.specs.declared.Turn.the-variants.{Keeps, Forgets}
 use Rattle.statements.specs.declared.Effect.{Effect}
 use Rattle.statements.specs.Order.{placeOf, earlier}
 use Rattle.statements.specs.Asking.{askedOf, answersFrom, refusalsIn}
@@ -65,24 +67,24 @@ module _ (e : Entry) (a : Asked) (ill : Bool) (b : Built) where
 pub record Fresh (b : Built) (e : Effect) : Type 0 where
   pub accepted : b .refusal ≡ 0
   pub counted : e .size ≡ b .length
-  pub dirtied : e .dirties ≡ b .dirties
+  pub turned : e .turn ≡ pick (b .dirties) Forgets Keeps
 
 effect-fresh :
     (e : Entry) (why : ℕ) (b : Built) → (why ≡ 0 → b .refusal ≡ 0) → instructionEffect e why b .refusal ≡ 0 → Fresh b (instructionEffect e why b)
 unfolding instructionEffect
 effect-fresh e why b h =
     by-test (λ (x : Effect). x .refusal ≡ 0 → Fresh b x) (eqb why 0)
-    (λ q _. record { accepted = h (eqb-true why 0 q); counted = refl; dirtied = refl })
+    (λ q _. record { accepted = h (eqb-true why 0 q); counted = refl; turned = refl })
     (λ q z. absurd (eqb-false why 0 q z))
 
 pub instruction-fresh :
-    (node : ℕ) (e : Entry) (items ns ls : List ℕ) (here : ℕ) (dirty ill : Bool) →
-    effectOf (Instruction node) e items ns ls here dirty ill .refusal ≡ 0 →
-    Fresh (freshOf (recordOf e (askedOf ns ls node here) dirty) here) (effectOf (Instruction node) e items ns ls here dirty ill)
+    (node : ℕ) (e : Entry) (items ns ls : List ℕ) (here : ℕ) (page : Page) (ill : Bool) →
+    effectOf (Instruction node) e items ns ls here page ill .refusal ≡ 0 →
+    Fresh (freshOf (recordOf e (askedOf ns ls node here) page) here) (effectOf (Instruction node) e items ns ls here page ill)
 unfolding builtOf
-instruction-fresh node e items ns ls here dirty ill =
+instruction-fresh node e items ns ls here page ill =
     let a = askedOf ns ls node here in
-    let b = freshOf (recordOf e a dirty) here in
+    let b = freshOf (recordOf e a page) here in
     effect-fresh e (instructionRefusal e a ill b) b (accepted-build e a ill b)
 
 -- ---- FCB, FDB, FCC

@@ -7,7 +7,7 @@ use lib.Dec.{eqb, ltb}
 use Rattle.ground.specs.Choice.{pick}
 use Rattle.entries.specs.Entries.{byteIn, operandOf}
 use Rattle.statements.specs.declared.Statement.{Statement}
-use Rattle.statements.specs.declared.Statement.the-variants.{Label, Instruction, Rmb, Fcb, Fdb, Fcc, Org, Unknown}
+use Rattle.statements.specs.declared.Statement.the-variants.{Label, Instruction, Rmb, Fcb, Fdb, Fcc, Org, Setdp, Unknown}
 use Rattle.statements.specs.declared.Entry.{Entry}
 
 -- no label, no operand, a hole among values
@@ -26,7 +26,7 @@ numberAt list i j = pick (ltb i (rowsOf list)) (getD list (i * 20 + j) 0) none
 unfoldable pub itemAt : List ℕ → ℕ → ℕ
 itemAt items k = pick (ltb k (length items)) (getD items k 0) none
 
--- "an enum of statement kinds, arrays beside it"
+-- "an enum of statement kinds, arrays beside it"; where others have the node of their operand, SETDP has its number itself
 unfoldable pub statementOf : (kind node first count : ℕ) → Statement
 statementOf kind node first count =
     pick (eqb kind 0) Label
@@ -35,7 +35,8 @@ statementOf kind node first count =
     (pick (eqb kind 3) (Fcb first count)
     (pick (eqb kind 4) (Fdb first count)
     (pick (eqb kind 5) (Fcc first count)
-    (pick (eqb kind 6) (Org node) Unknown))))))
+    (pick (eqb kind 6) (Org node)
+    (pick (eqb kind 7) (Setdp node) Unknown)))))))
 
 unfoldable pub statementAt : List ℕ → ℕ → Statement
 statementAt list i = statementOf (numberAt list i 0) (numberAt list i 2) (numberAt list i 3) (numberAt list i 4)
@@ -64,13 +65,14 @@ itemsOf (Fcb first count) = count
 itemsOf (Fdb first count) = count
 itemsOf (Fcc first count) = count
 itemsOf (Org node) = 0
+itemsOf (Setdp number) = 0
 itemsOf Unknown = 0
 
 -- 17: "more than .. 256 values or characters in one statement"
 unfoldable pub overfullAt : List ℕ → ℕ → Bool
 overfullAt list i = ltb 256 (itemsOf (statementAt list i))
 
--- the kind of its object: 0 without data ("Objects without data (RMB, ORG)"), 1 with data; a label alone, and what is unknown, has no object
+-- the kind of its object: 0 without data ("Objects without data (RMB, ORG)"), 1 with data; a label alone, SETDP, and what is unknown, has no object
 abbrev pub objectOf : Statement → ℕ
 objectOf Label = none
 objectOf (Instruction node) = 1
@@ -79,4 +81,5 @@ objectOf (Fcb first count) = 1
 objectOf (Fdb first count) = 1
 objectOf (Fcc first count) = 1
 objectOf (Org node) = 0
+objectOf (Setdp number) = none
 objectOf Unknown = none

@@ -4,6 +4,7 @@ use crate::Datum;
 use crate::Effect;
 use crate::Entry;
 use crate::Statement;
+use crate::Turn;
 use crate::asking::ask;
 use crate::asking::refusal_among;
 use crate::asking::want;
@@ -18,9 +19,12 @@ use instruction::Built;
 use instruction::Record;
 use instruction::assemble;
 use rows::sizes::smallest_size;
+use values::pages::Page;
 ghost use mathlib.Core.Path.{_≡_};
+ghost use Rattle.ground.specs.Choice.{pick};
+ghost use Rattle.statements.specs.declared.Turn.the-variants.{Keeps, Forgets};
 ghost use Rattle.statements.specs.Asking.{askedOf, answersFrom};
-ghost use Rattle.statements.specs.Effects.{counts, ownLabel, entryRefusal, builtOf, instructionRefusal, instructionEffect, numberRefusal, reservedEffect, originEffect, dataRefusal, effectAt, countedOf};
+ghost use Rattle.statements.specs.Effects.{counts, ownLabel, entryRefusal, builtOf, instructionRefusal, instructionEffect, numberRefusal, reservedEffect, originEffect, setdpEffect, dataRefusal, effectAt, countedOf};
 
 // "Running to 65536 is allowed."
 const LAST_END: u64 = 65536;
@@ -33,7 +37,7 @@ fn counts(refusal: u8, size: u32) -> Effect
         size,
         moves: false,
         to: 0,
-        dirties: false,
+        turn: Turn::Keeps,
     }
 }
 
@@ -52,17 +56,24 @@ fn entry_refusal(entry: Entry) -> u8
 }
 
 // The fresh build of an instruction. The page is the pass's.
-pub(crate) fn built(entry: Entry, asked: Asked, dirty: bool, here: u16) -> Built
-    ensures { λ r. ⌜ r ≡ builtOf entry asked dirty here ⌝ }
+pub(crate) fn built(entry: Entry, asked: Asked, page: Page, here: u16) -> Built
+    ensures { λ r. ⌜ r ≡ builtOf entry asked page here ⌝ }
 {
     let operand = entry.operand;
     let values = asked.values;
     let record = Record {
         operand,
-        dirty,
+        page,
         values,
     };
     assemble(record, here)
+}
+
+// What an accepted instruction does to the page.
+fn turn_by(dirties: bool) -> Turn
+    ensures { λ r. ⌜ r ≡ pick dirties Forgets Keeps ⌝ }
+{
+    if dirties { Turn::Forgets } else { Turn::Keeps }
 }
 
 fn instruction_effect(entry: Entry, refusal: u8, built: Built) -> Effect
@@ -71,12 +82,13 @@ fn instruction_effect(entry: Entry, refusal: u8, built: Built) -> Effect
     if refusal != 0 {
         return counts(refusal, smallest_size(entry.operation) as u32);
     }
+    let turn = turn_by(built.dirties);
     Effect {
         refusal: 0,
         size: built.length as u32,
         moves: false,
         to: 0,
-        dirties: built.dirties,
+        turn,
     }
 }
 
@@ -100,13 +112,13 @@ fn instruction(
     labels: &[u16],
     node: u16,
     here: u16,
-    dirty: bool,
+    page: Page,
     ill: bool,
 ) -> Effect
-    ensures { λ r. ⌜ r ≡ instructionEffect entry (instructionRefusal entry (askedOf (now (nodes .entry)) (now (labels .entry)) node here) ill (builtOf entry (askedOf (now (nodes .entry)) (now (labels .entry)) node here) dirty here)) (builtOf entry (askedOf (now (nodes .entry)) (now (labels .entry)) node here) dirty here) ⌝ }
+    ensures { λ r. ⌜ r ≡ instructionEffect entry (instructionRefusal entry (askedOf (now (nodes .entry)) (now (labels .entry)) node here) ill (builtOf entry (askedOf (now (nodes .entry)) (now (labels .entry)) node here) page here)) (builtOf entry (askedOf (now (nodes .entry)) (now (labels .entry)) node here) page here) ⌝ }
 {
     let asked = ask(nodes, labels, node, here);
-    let built = built(entry, asked, dirty, here);
+    let built = built(entry, asked, page, here);
     let refusal = instruction_refusal(entry, asked, ill, built);
     instruction_effect(entry, refusal, built)
 }
@@ -139,7 +151,28 @@ fn origin(answer: Answer, refusal: u8) -> Effect
         size: 0,
         moves: true,
         to: value.number,
-        dirties: false,
+        turn: Turn::Keeps,
+    }
+}
+
+// "1 for another SETDP number", before the 10 of its label: refused, it sets nothing.
+fn setdp(number: u16, ill: bool) -> Effect
+    ensures { λ r. ⌜ r ≡ setdpEffect number ill ⌝ }
+{
+    if 255 < number {
+        return counts(UNKNOWN, 0);
+    }
+    if ill {
+        return counts(BAD_LABEL, 0);
+    }
+    let high = number as u8;
+    let turn = Turn::Sets(high);
+    Effect {
+        refusal: 0,
+        size: 0,
+        moves: false,
+        to: 0,
+        turn,
     }
 }
 
@@ -161,7 +194,7 @@ fn data(
     counts(earlier(own_label(ill), among), size)
 }
 
-// What statement i does at an address, where the page is dirty or clean and its own label ill (borne by an earlier statement, or above 511) or not.
+// What statement i does at an address, under a page, with its own label ill (borne by an earlier statement, or above 511) or not.
 pub fn effect(
     list: &[u16],
     items: &[u16],
@@ -169,17 +202,17 @@ pub fn effect(
     labels: &[u16],
     i: usize,
     here: u16,
-    dirty: bool,
+    page: Page,
     ill: bool,
 ) -> Effect
-    ensures { λ r. ⌜ r ≡ effectAt (now (list .entry)) (now (items .entry)) (now (nodes .entry)) (now (labels .entry)) i here dirty ill ⌝ }
+    ensures { λ r. ⌜ r ≡ effectAt (now (list .entry)) (now (items .entry)) (now (nodes .entry)) (now (labels .entry)) i here page ill ⌝ }
 {
     let statement = statement_at(list, i);
     match statement {
         Statement::Label => counts(own_label(ill), 0),
         Statement::Instruction { node } => {
             let entry = operand_at(list, i);
-            instruction(entry, nodes, labels, node, here, dirty, ill)
+            instruction(entry, nodes, labels, node, here, page, ill)
         }
         Statement::Rmb { node } => {
             let answer = want(nodes, labels, node, here);
@@ -204,6 +237,7 @@ pub fn effect(
             let answer = want(nodes, labels, node, 0);
             origin(answer, number_refusal(answer, ill))
         }
+        Statement::Setdp { number } => setdp(number, ill),
         Statement::Unknown => counts(UNKNOWN, 0),
     }
 }

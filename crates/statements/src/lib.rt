@@ -8,8 +8,11 @@ mod order;
 
 use instruction::Operand;
 use instruction::Values;
+use values::pages::Page;
+ghost use mathlib.Core.Path.{_≡_};
+ghost use Rattle.statements.specs.Turns.{turned};
 
-// What a row is: `first` and `count` are places among the lent items, a `node` may be none.
+// What a row is: `first` and `count` are places among the lent items, a `node` may be none, SETDP's `number` is itself.
 pub enum Statement {
     Label,
     Instruction { node: u16 },
@@ -18,6 +21,7 @@ pub enum Statement {
     Fdb { first: u16, count: u16 },
     Fcc { first: u16, count: u16 },
     Org { node: u16 },
+    Setdp { number: u16 },
     Unknown,
 }
 
@@ -40,11 +44,31 @@ pub(crate) enum Datum {
     Character,
 }
 
-// What a statement does: its refusal or 0, what it counts, of an ORG that it moves and where to, and whether it dirties the page.
+// What a statement does to the page: it keeps it, leaves it unknown, or sets it to a high byte.
+pub enum Turn {
+    Keeps,
+    Forgets,
+    Sets(u8),
+}
+
+impl Turn {
+    // The page after a statement.
+    pub fn turns(self, page: Page) -> Page
+        ensures { λ r. ⌜ r ≡ turned self page ⌝ }
+    {
+        match self {
+            Turn::Keeps => page,
+            Turn::Forgets => Page::Unknown,
+            Turn::Sets(high) => Page::Known(high),
+        }
+    }
+}
+
+// What a statement does: its refusal or 0, what it counts, of an ORG that it moves and where to, and what it does to the page.
 pub struct Effect {
     pub refusal: u8,
     pub size: u32,
     pub moves: bool,
     pub to: u16,
-    pub dirties: bool,
+    pub turn: Turn,
 }

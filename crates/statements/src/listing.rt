@@ -67,6 +67,7 @@ fn statement(kind: u16, node: u16, first: u16, count: u16) -> Statement
         4 => Statement::Fdb { first, count },
         5 => Statement::Fcc { first, count },
         6 => Statement::Org { node },
+        7 => Statement::Setdp { number: node },
         _ => Statement::Unknown,
     }
 }
@@ -120,6 +121,7 @@ fn items_of(statement: Statement) -> u16
         Statement::Fdb { first: _, count } => count,
         Statement::Fcc { first: _, count } => count,
         Statement::Org { node: _ } => 0,
+        Statement::Setdp { number: _ } => 0,
         Statement::Unknown => 0,
     }
 }
@@ -144,6 +146,7 @@ pub fn object_kind(statement: Statement) -> u16
         Statement::Fdb { first: _, count: _ } => 1,
         Statement::Fcc { first: _, count: _ } => 1,
         Statement::Org { node: _ } => 0,
+        Statement::Setdp { number: _ } => NONE,
         Statement::Unknown => NONE,
     }
 }

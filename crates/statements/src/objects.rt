@@ -9,6 +9,7 @@ use crate::listing::item;
 use crate::listing::operand_at;
 use crate::listing::statement_at;
 use ground::buffers::store_cell;
+use values::pages::Page;
 ghost use mathlib.Core.Path.{_≡_};
 ghost use mathlib.Core.List.{[], _∷_};
 ghost use Prim.Native.Nat.{_+_, _≤_, min};
@@ -78,16 +79,16 @@ fn store_instruction(
     labels: &[u16],
     node: u16,
     here: u16,
-    dirty: bool,
+    page: Page,
     values: &mut [u16],
     place: usize,
 ) -> u16
     requires { ⌜ place ≤ length (now values) ⌝ }
-    ensures { λ r. ⌜ r ≡ countIn (byteRows (bytesIn (builtOf entry (askedOf (now (nodes .entry)) (now (labels .entry)) node here) dirty here))) ⌝ }
-    ensures { λ _. ⌜ now (values .exit) ≡ put (now (values .entry)) place (byteRows (bytesIn (builtOf entry (askedOf (now (nodes .entry)) (now (labels .entry)) node here) dirty here))) ⌝ }
+    ensures { λ r. ⌜ r ≡ countIn (byteRows (bytesIn (builtOf entry (askedOf (now (nodes .entry)) (now (labels .entry)) node here) page here))) ⌝ }
+    ensures { λ _. ⌜ now (values .exit) ≡ put (now (values .entry)) place (byteRows (bytesIn (builtOf entry (askedOf (now (nodes .entry)) (now (labels .entry)) node here) page here))) ⌝ }
 {
     let asked = ask(nodes, labels, node, here);
-    let built = built(entry, asked, dirty, here);
+    let built = built(entry, asked, page, here);
     let bytes = built.bytes;
     let count = built.length;
     store_bytes(bytes, count, values, place);
@@ -103,12 +104,12 @@ pub fn store_values(
     labels: &[u16],
     i: usize,
     here: u16,
-    dirty: bool,
+    page: Page,
     values: &mut [u16],
     place: usize,
 ) -> u16
-    ensures { λ r. ⌜ r ≡ countIn (valuesAt (now (list .entry)) (now (items .entry)) (now (nodes .entry)) (now (labels .entry)) i here dirty) ⌝ }
-    ensures { λ _. ⌜ now (values .exit) ≡ put (now (values .entry)) place (valuesAt (now (list .entry)) (now (items .entry)) (now (nodes .entry)) (now (labels .entry)) i here dirty) ⌝ }
+    ensures { λ r. ⌜ r ≡ countIn (valuesAt (now (list .entry)) (now (items .entry)) (now (nodes .entry)) (now (labels .entry)) i here page) ⌝ }
+    ensures { λ _. ⌜ now (values .exit) ≡ put (now (values .entry)) place (valuesAt (now (list .entry)) (now (items .entry)) (now (nodes .entry)) (now (labels .entry)) i here page) ⌝ }
 {
     let statement = statement_at(list, i);
     let at = within(place, values.len());
@@ -116,7 +117,7 @@ pub fn store_values(
         Statement::Label => 0,
         Statement::Instruction { node } => {
             let entry = operand_at(list, i);
-            store_instruction(entry, nodes, labels, node, here, dirty, values, at)
+            store_instruction(entry, nodes, labels, node, here, page, values, at)
         }
         Statement::Rmb { node: _ } => 0,
         Statement::Fcb { first, count } => {
@@ -135,6 +136,7 @@ pub fn store_values(
             count
         }
         Statement::Org { node: _ } => 0,
+        Statement::Setdp { number: _ } => 0,
         Statement::Unknown => 0,
     }
 }

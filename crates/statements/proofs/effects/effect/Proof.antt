@@ -80,6 +80,12 @@ number-refusal-requires-2 c κs = search needs
 origin-requires : tie.Need-origin-requires
 origin-requires c κs = search needs
 
+enum-known-statement-7 : tie.Need-enum-known-statement-7
+enum-known-statement-7 c = search needs
+
+setdp-requires : tie.Need-setdp-requires
+setdp-requires c κs = search needs
+
 enum-told-2 : tie.Need-enum-told-2
 enum-told-2 c = search needs
 
@@ -116,7 +122,11 @@ returns-7 c = rw (← c .before .before .before .before .before .before .stateme
 
 returns-8 : tie.Need-returns-8
 unfolding effectAt
-returns-8 c = rw (← c .before .before .before .statement-at .ensures, c .before .enum-told2 .given .1) (c .counts2 .ensures)
+returns-8 c = rw (← c .before .before .before .before .statement-at .ensures, c .before .before .statement7 .given .1) (c .setdp .ensures)
+
+returns-9 : tie.Need-returns-9
+unfolding effectAt
+returns-9 c = rw (← c .before .before .before .statement-at .ensures, c .before .enum-told2 .given .1) (c .counts2 .ensures)
 
 pub effect-spec : {M : Type 1} → statement M
 effect-spec =
@@ -147,6 +157,8 @@ effect-spec =
     want-requires-2
     number-refusal-requires-2
     origin-requires
+    enum-known-statement-7
+    setdp-requires
     enum-told-2
     counts-requires-2
     returns
@@ -156,4 +168,5 @@ effect-spec =
     returns-5
     returns-6
     returns-7
-    returns-8)
+    returns-8
+    returns-9)

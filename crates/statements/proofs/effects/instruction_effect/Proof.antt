@@ -20,14 +20,17 @@ returns : tie.Need-returns
 unfolding instructionEffect pick
 returns c = rw (ne-eqb _ _ (c .before .before .if1 .taken)) (cc)
 
-cast-t7 : tie.Need-cast-t7
-cast-t7 c = search needs
+turn-by-requires : tie.Need-turn-by-requires
+turn-by-requires c κs = search needs
+
+cast-t8 : tie.Need-cast-t8
+cast-t8 c = search needs
 
 returns-2 : tie.Need-returns-2
 unfolding instructionEffect pick
-returns-2 c = rw (eq-eqb _ _ (c .before .if1 .left))
+returns-2 c = rw (eq-eqb _ _ (c .before .before .if1 .left), c .before .turn-by .ensures)
 
 pub instruction-effect-spec : {M : Type 1} → statement M
 instruction-effect-spec =
     tie.close
-    (tie.spec smallest-size-requires cast-counts counts-requires returns cast-t7 returns-2)
+    (tie.spec smallest-size-requires cast-counts counts-requires returns turn-by-requires cast-t8 returns-2)

@@ -18,7 +18,7 @@ returns : tie.Need-returns
 returns c =
     let a = c .before .before .before .before .before .before .before .before .args in
     let o = sym (c .before .before .overfull .ensures) ∙ c .before .if1 .taken in
-    rw (c .refused .ensures) (too-many (now (a .list)) (now (a .items)) (now (a .nodes)) (now (a .labels)) (a .i) (a .address) (a .dirty) (a .ill) (now (a .values)) o)
+    rw (c .refused .ensures) (too-many (now (a .list)) (now (a .items)) (now (a .nodes)) (now (a .labels)) (a .i) (a .address) (a .page) (a .ill) (now (a .values)) o)
 
 effect-requires : tie.Need-effect-requires
 effect-requires c κs = search needs
@@ -31,7 +31,7 @@ returns-2 c =
     let a = c .before .before .before .before .before .before .before .before .before .before .before .args in
     let o = sym (c .before .before .before .before .before .overfull .ensures) ∙ c .before .before .before .before .if1 .left in
     let e = c .before .before .before .effect .ensures in
-    rw (c .refused2 .ensures, e) (own (now (a .list)) (now (a .items)) (now (a .nodes)) (now (a .labels)) (a .i) (a .address) (a .dirty) (a .ill) (now (a .values)) o (λ z. c .before .if2 .taken (ap (λ (e : Effect). e .refusal) e ∙ z)))
+    rw (c .refused2 .ensures, e) (own (now (a .list)) (now (a .items)) (now (a .nodes)) (now (a .labels)) (a .i) (a .address) (a .page) (a .ill) (now (a .values)) o (λ z. c .before .if2 .taken (ap (λ (e : Effect). e .refusal) e ∙ z)))
 
 slice-aggregate-store-values : tie.Need-slice-aggregate-store-values
 slice-aggregate-store-values c = search needs
@@ -54,7 +54,7 @@ returns-3 c =
     let o = sym (c .before .before .before .before .before .before .before .before .before .overfull .ensures) ∙ c .before .before .before .before .before .before .before .before .if1 .left in
     let e = c .before .before .before .before .before .before .before .effect .ensures in
     let n = c .before .before .before .store-values .ensures .0 in
-    rw (c .refused3 .ensures) (no-room (now (a .list)) (now (a .items)) (now (a .nodes)) (now (a .labels)) (a .i) (a .address) (a .dirty) (a .ill) (now (a .values)) o (sym (ap (λ (e : Effect). e .refusal) e) ∙ c .before .before .before .before .before .if2 .left) (rw n at (c .before .if3 .taken)))
+    rw (c .refused3 .ensures) (no-room (now (a .list)) (now (a .items)) (now (a .nodes)) (now (a .labels)) (a .i) (a .address) (a .page) (a .ill) (now (a .values)) o (sym (ap (λ (e : Effect). e .refusal) e) ∙ c .before .before .before .before .before .if2 .left) (rw n at (c .before .if3 .taken)))
 
 store-values-requires-2 : tie.Need-store-values-requires-2
 store-values-requires-2 c κs = search needs
@@ -71,7 +71,7 @@ returns-4 c =
     let o = sym (c .before .before .before .before .before .before .before .before .before .before .before .before .before .overfull .ensures) ∙ c .before .before .before .before .before .before .before .before .before .before .before .before .if1 .left in
     let e = c .before .before .before .before .before .before .before .before .before .before .before .effect .ensures in
     let n = c .before .before .before .before .before .before .before .store-values .ensures .0 in
-    rw (c .accepted .ensures, e, n, c .before .before .before .store-values2 .ensures .1) (stored (now (a .list)) (now (a .items)) (now (a .nodes)) (now (a .labels)) (a .i) (a .address) (a .dirty) (a .ill) (now (a .values)) o (sym (ap (λ (e : Effect). e .refusal) e) ∙ c .before .before .before .before .before .before .before .before .before .if2 .left) (rw n at (c .before .before .before .before .before .if3 .left)))
+    rw (c .accepted .ensures, e, n, c .before .before .before .store-values2 .ensures .1) (stored (now (a .list)) (now (a .items)) (now (a .nodes)) (now (a .labels)) (a .i) (a .address) (a .page) (a .ill) (now (a .values)) o (sym (ap (λ (e : Effect). e .refusal) e) ∙ c .before .before .before .before .before .before .before .before .before .if2 .left) (rw n at (c .before .before .before .before .before .if3 .left)))
 
 pub build-spec : {M : Type 1} → statement M
 build-spec =

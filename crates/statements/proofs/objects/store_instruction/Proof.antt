@@ -21,7 +21,7 @@ store-bytes-requires : tie.Need-store-bytes-requires
 store-bytes-requires c κs =
     let a = c .before .before .before .before .before .before .before .args in
     let five : Five (c .before .before .built .result .bytes) (c .before .before .built .result .length) =
-    rw (c .before .before .built .ensures) (built-five (a .entry) (c .before .before .before .ask .result) (a .dirty) (a .here)) in
+    rw (c .before .before .built .ensures) (built-five (a .entry) (c .before .before .before .ask .result) (a .page) (a .here)) in
     (five .most, c .before .before .before .before .before .before .before .pre)
 
 cast-result : tie.Need-cast-result
@@ -35,7 +35,7 @@ returns c =
     let a = c .before .before .before .before .before .before .before .before .before .before .args in
     let asked = c .before .before .before .before .before .before .ask .result in
     let built = c .before .before .before .before .before .built .ensures in (
-      rw (← c .before .before .before .before .before .before .ask .ensures) (ap (λ (b : Built). b .length) built ∙ sym (built-bytes (a .entry) asked (a .dirty) (a .here)) ∙ byte-count (bytesIn (builtOf (a .entry) asked (a .dirty) (a .here)))),
+      rw (← c .before .before .before .before .before .before .ask .ensures) (ap (λ (b : Built). b .length) built ∙ sym (built-bytes (a .entry) asked (a .page) (a .here)) ∙ byte-count (bytesIn (builtOf (a .entry) asked (a .page) (a .here)))),
       rw (← c .before .before .before .before .before .before .ask .ensures, ← built) (c .before .before .store-bytes .ensures),
     )
 

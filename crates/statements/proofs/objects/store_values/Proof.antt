@@ -53,6 +53,9 @@ enum-told-3 c = search needs
 enum-told-4 : tie.Need-enum-told-4
 enum-told-4 c = search needs
 
+enum-told-5 : tie.Need-enum-told-5
+enum-told-5 c = search needs
+
 returns : tie.Need-returns
 unfolding valuesAt
 returns c = rw (← c .before .before .before .statement-at .ensures, c .enum-told .given .1) (refl, refl)
@@ -109,6 +112,10 @@ returns-8 : tie.Need-returns-8
 unfolding valuesAt
 returns-8 c = rw (← c .before .before .before .statement-at .ensures, c .enum-told4 .given .1) (refl, refl)
 
+returns-9 : tie.Need-returns-9
+unfolding valuesAt
+returns-9 c = rw (← c .before .before .before .statement-at .ensures, c .enum-told5 .given .1) (refl, refl)
+
 pub store-values-spec : {M : Type 1} → statement M
 store-values-spec =
     tie.close
@@ -128,6 +135,7 @@ store-values-spec =
     store-data-requires-3
     enum-told-3
     enum-told-4
+    enum-told-5
     returns
     same-length
     returns-2
@@ -139,4 +147,5 @@ store-values-spec =
     same-length-4
     returns-6
     returns-7
-    returns-8)
+    returns-8
+    returns-9)
