@@ -18,7 +18,7 @@ use Rattle.instruction.specs.Building as building
 use Rattle.decoder.specs.Origin.{origin}
 use Rattle.decoder.specs.Front.{frontOf}
 use Rattle.meanings.specs.ReadBack.{readAs}
-use Rattle.meanings.proofs.Decodes.{fresh-decodes}
+use Rattle.meanings.proofs.Decodes.{own-fresh-decodes}
 use Rattle.statements.specs.declared.Statement.the-variants.{Instruction}
 use Rattle.statements.specs.Listing.{none, statementAt, entryAt}
 use Rattle.statements.specs.Asking.{askedOf}
@@ -110,8 +110,8 @@ module _ (src : Source) (o : Outcome) (i node : ℕ) (s : Stands src o i) (is : 
       rw is
       (instruction-bytes (src .nodes) (o .table) node (entryAt (src .list) i) (src .items) (addressAt src o i % 65536) (pageAt src o i))
 
-  -- decoding its bytes at its address, whatever follows them, reads its length and its meaning
+  -- decoding its bytes at its address and under the page there, whatever follows them, reads its length and its meaning
   pub instruction-decodes :
       (t : List ℕ) →
-      frontOf (bytesIn src o i ++ t) (origin (addressAt src o i % 65536)) ≡ readAs (recordIn .values) (addressAt src o i % 65536) builtIn
-  instruction-decodes t = rw built-bytes (fresh-decodes recordIn (addressAt src o i % 65536) built-accepted t)
+      frontOf (bytesIn src o i ++ t) (origin (addressAt src o i % 65536) (pageAt src o i)) ≡ readAs (recordIn .values) (addressAt src o i % 65536) builtIn
+  instruction-decodes t = rw built-bytes (own-fresh-decodes recordIn (addressAt src o i % 65536) built-accepted t)

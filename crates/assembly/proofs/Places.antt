@@ -1,13 +1,14 @@
 -- The walk that puts out the objects goes through the places of the settled pass, as long as no statement is refused.
 -- Assumes nothing.
 use mathlib.Core.Path.{_≡_, refl}
-use mathlib.Core.Bool.{Bool, false, _||_}
+use mathlib.Core.Bool.{false}
 use mathlib.Core.List.{List}
 use Prim.Native.Nat.{ℕ, zero, suc, _+_, _%_, _≤_, _<_}
 use native.Mathlib.Omega.{arith}
 use Rattle.ground.specs.Choice.{pick}
 use Rattle.values.specs.declared.pages.Page.{Page}
 use Rattle.statements.specs.declared.Effect.{Effect}
+use Rattle.statements.specs.Turns.{turned}
 use Rattle.statements.specs.Effects.{effectAt}
 use Rattle.passes.specs.Walks.{Source, walkTo, walkOf}
 use Rattle.passes.specs.Passes.{Outcome, passOf}

@@ -6,16 +6,16 @@ use mathlib.Core.List.{List}
 use mathlib.Core.Logic.{_⊎_, inl, inr, ⊎-elim}
 use Prim.Native.Nat.{ℕ, _+_, _≤_}
 use native.Mathlib.Omega.{arith}
-use lib.Dec.{leb}
+use lib.Dec.{ltb, leb}
 use borrow.Author.Tests.{le-leb}
 use Rattle.ground.proofs.Choices.{pick-true, pick-false, by-pick}
 use Rattle.values.specs.declared.pages.Page.{Page}
 use Rattle.statements.specs.declared.Statement.{Statement}
-use Rattle.statements.specs.declared.Statement.the-variants.{Label, Instruction, Rmb, Fcb, Fdb, Fcc, Org, Unknown}
+use Rattle.statements.specs.declared.Statement.the-variants.{Label, Instruction, Rmb, Fcb, Fdb, Fcc, Org, Setdp, Unknown}
 use Rattle.statements.specs.declared.Entry.{Entry}
 use Rattle.statements.specs.declared.Effect.{Effect}
 use Rattle.statements.specs.Listing.{statementAt, entryAt, objectOf}
-use Rattle.statements.specs.Effects.{instructionEffect, reservedEffect, originEffect, effectOf, effectAt, countedOf}
+use Rattle.statements.specs.Effects.{instructionEffect, reservedEffect, originEffect, setdpEffect, effectOf, effectAt, countedOf}
 use Rattle.assembly.specs.Objects.{kindAt, standsAt}
 
 -- a statement moves nothing, or it counts none and its object has no data
@@ -23,7 +23,7 @@ abbrev Moves : Statement → Effect → Type 0
 Moves s e = (e .moves ≡ false) ⊎ ((e .size ≡ 0) × (objectOf s ≡ 0))
 
 effect-moves : (s : Statement) (e : Entry) (items ns ls : List ℕ) (here : ℕ) (page : Page) (ill : Bool) → Moves s (effectOf s e items ns ls here page ill)
-unfolding instructionEffect reservedEffect originEffect
+unfolding instructionEffect reservedEffect originEffect setdpEffect
 effect-moves Label e items ns ls here page ill = inl refl
 effect-moves (Instruction node) e items ns ls here page ill = by-pick (Moves (Instruction node)) _ (inl refl) (inl refl)
 effect-moves (Rmb node) e items ns ls here page ill = by-pick (Moves (Rmb node)) _ (inl refl) (inl refl)
@@ -31,6 +31,8 @@ effect-moves (Fcb first count) e items ns ls here page ill = inl refl
 effect-moves (Fdb first count) e items ns ls here page ill = inl refl
 effect-moves (Fcc first count) e items ns ls here page ill = inl refl
 effect-moves (Org node) e items ns ls here page ill = by-pick (Moves (Org node)) _ (inr (refl, refl)) (inl refl)
+effect-moves (Setdp number) e items ns ls here page ill =
+    by-pick (Moves (Setdp number)) (ltb number 256) (by-pick (Moves (Setdp number)) ill (inl refl) (inl refl)) (inl refl)
 effect-moves Unknown e items ns ls here page ill = inl refl
 
 stays : (e : Effect) (here : ℕ) → e .moves ≡ false → standsAt e here ≡ here

@@ -1,13 +1,12 @@
 -- Which statements have values: a statement whose object has no data, or that has no object, has none.
 -- Assumes nothing.
 use mathlib.Core.Path.{_≡_, refl}
-use mathlib.Core.Bool.{Bool}
 use mathlib.Core.List.{List, []}
 use mathlib.Core.Logic.{_⊎_, inl, inr}
 use Prim.Native.Nat.{ℕ}
 use Rattle.values.specs.declared.pages.Page.{Page}
 use Rattle.statements.specs.declared.Statement.{Statement}
-use Rattle.statements.specs.declared.Statement.the-variants.{Label, Instruction, Rmb, Fcb, Fdb, Fcc, Org, Unknown}
+use Rattle.statements.specs.declared.Statement.the-variants.{Label, Instruction, Rmb, Fcb, Fdb, Fcc, Org, Setdp, Unknown}
 use Rattle.statements.specs.declared.Entry.{Entry}
 use Rattle.statements.specs.Listing.{none, statementAt, entryAt, objectOf}
 use Rattle.statements.specs.Objects.{valuesOf, valuesAt}
@@ -22,6 +21,7 @@ kinds (Fcb first n) e items ns ls here page = inl refl
 kinds (Fdb first n) e items ns ls here page = inl refl
 kinds (Fcc first n) e items ns ls here page = inl refl
 kinds (Org node) e items ns ls here page = inr (inl refl, refl)
+kinds (Setdp number) e items ns ls here page = inr (inr refl, refl)
 kinds Unknown e items ns ls here page = inr (inr refl, refl)
 
 pub values-kinds :

@@ -1,17 +1,20 @@
--- Demand 3 of a settled list of instructions and bare labels.
+-- Demand 3 of a settled list of instructions, bare labels and SETDP.
 -- Assumes nothing.
-use mathlib.Core.Path.{_≡_, refl, sym, ap, _∙_}
+use mathlib.Core.Path.{_≡_, refl, sym, ap, subst, _∙_}
 use mathlib.Core.Bool.{true, false}
 use mathlib.Core.List.{List, [], _∷_, _++_}
 use mathlib.Core.Logic.{inl}
 use Prim.Native.Nat.{ℕ, zero, suc, _+_, _%_, _≤_, _<_}
 use native.Mathlib.Nat.{zero-add}
 use native.Mathlib.Omega.{arith}
-use lib.Dec.{eqb}
+use lib.Dec.{eqb, ltb}
 use lib.ListN.{length, length-append}
 use borrow.Author.Tests.{eq-eqb, eqb-true}
 use Rattle.ground.specs.Choice.{pick}
 use Rattle.ground.proofs.Choices.{pick-false, by-pick, by-test}
+use Rattle.values.specs.declared.pages.Page.{Page}
+use Rattle.values.specs.declared.pages.Page.the-variants.{Known}
+use Rattle.values.specs.Pages.{meets}
 use Rattle.expressions.specs.Numbers.{Cells, Short}
 use Rattle.records.specs.Objects.{Object, With}
 use Rattle.records.specs.Text.{close}
@@ -24,14 +27,17 @@ use Rattle.instruction.specs.Building as building
 use Rattle.meanings.proofs.Decodes.{fresh-sized}
 use Rattle.laying.specs.Laying.{builtAt}
 use Rattle.laying.specs.Exactly.{allBuilt, bytesFrom}
+use Rattle.laying.specs.Meant.{allMeet}
 use Rattle.laying.proofs.Exactly.{fits-laid}
 use Rattle.laying.proofs.Decodes.{laid-decodes, laid-whole}
 use Rattle.statements.specs.declared.Statement.{Statement}
-use Rattle.statements.specs.declared.Statement.the-variants.{Label, Instruction, Rmb, Fcb, Fdb, Fcc, Org, Unknown}
+use Rattle.statements.specs.declared.Statement.the-variants.{Label, Instruction, Rmb, Fcb, Fdb, Fcc, Org, Setdp, Unknown}
 use Rattle.statements.specs.declared.Effect.{Effect}
 use Rattle.statements.specs.Listing.{none, rowsOf, statementAt, entryAt}
-use Rattle.statements.specs.Effects.{instructionEffect, effectOf, effectAt}
+use Rattle.statements.specs.Effects.{instructionEffect, setdpEffect, effectOf, effectAt}
+use Rattle.statements.specs.Turns.{turned}
 use Rattle.statements.proofs.Told.{instruction-fresh}
+use Rattle.statements.proofs.Pages.{instruction-turns}
 use Rattle.passes.specs.declared.Ended.{Ended}
 use Rattle.passes.specs.Walks.{Source, walkTo, walkOf}
 use Rattle.passes.specs.Passes.{Outcome, passOf, passedOf, answerOf, tooMany, endedOf}
@@ -44,8 +50,8 @@ use Rattle.assembly.proofs.Places.{Stands, own}
 use Rattle.assembly.proofs.Settled.{passed-stand}
 use Rattle.assembly.proofs.Lawful.{lawful}
 use Rattle.assembly.proofs.Made.{settled-bytes, recordIn, builtIn, built-accepted, built-bytes}
-use Rattle.settled.specs.Code.{isCode, recordsIn, recordsFrom, recordsIs}
-use Rattle.settled.specs.Demand.{bytesIs, SettledDemand}
+use Rattle.settled.specs.Code.{isCode, setsPage, recordsIn, recordsFrom, recordsIs}
+use Rattle.settled.specs.Demand.{bytesIs, SettledDemand, SettledUnderZero}
 
 -- ---- one statement
 module _ (src : Source) (o : Outcome) (i : ℕ) (s : Stands src o i) where
@@ -61,6 +67,22 @@ module _ (src : Source) (o : Outcome) (i : ℕ) (s : Stands src o i) where
   label-records : statementAt (src .list) i ≡ Label → recordsIn src o i ≡ []
   unfolding recordsIn
   label-records is = rw is
+
+  -- and so does SETDP
+  setdp-next : (number : ℕ) → statementAt (src .list) i ≡ Setdp number → addressAt src o (i + 1) ≡ addressAt src o i
+  unfolding effectAt setdpEffect pick
+  setdp-next number is =
+      s .at
+      ∙ rw is
+      (by-pick (λ (e : Effect). pick (e .moves) (e .to) (addressAt src o i + e .size) ≡ addressAt src o i) (ltb number 256) (omega arith) (omega arith))
+
+  setdp-made : (number : ℕ) → statementAt (src .list) i ≡ Setdp number → madeIn src o i ≡ []
+  unfolding madeIn pick
+  setdp-made number is = rw is
+
+  setdp-records : (number : ℕ) → statementAt (src .list) i ≡ Setdp number → recordsIn src o i ≡ []
+  unfolding recordsIn
+  setdp-records number is = rw is
 
   module _ (node : ℕ) (is : statementAt (src .list) i ≡ Instruction node) where
     -- what it does, as an instruction
@@ -129,6 +151,7 @@ next-near src o i s (Fcb first count) is c = no-code c
 next-near src o i s (Fdb first count) is c = no-code c
 next-near src o i s (Fcc first count) is c = no-code c
 next-near src o i s (Org node) is c = no-code c
+next-near src o i s (Setdp number) is c = omega (arith, setdp-next src o i s number is, s .near)
 next-near src o i s Unknown is c = no-code c
 
 start-near : (src : Source) (o : Outcome) → addressAt src o 0 ≡ 0
@@ -157,16 +180,13 @@ module _
       index : i + suc n ≡ i + 1 + n
       index = omega arith
 
-      after-label : statementAt (src .list) i ≡ Label → Laid (suc n) i
+      after-nothing : addressAt src o (i + 1) ≡ addressAt src o i → madeIn src o i ≡ [] → recordsIn src o i ≡ [] → Laid (suc n) i
       unfolding gather
-      after-label is =
-          let s = all i h in
-          let next = sym (label-next src o i s is) in
-          record {
-            built = rw (label-records src o i s is, next) (j .built);
-            runs = rw (label-records src o i s is, label-made src o i s is, next) (j .runs);
-            ends = rw (label-records src o i s is, next, index) (j .ends);
-          }
+      after-nothing next made records = record {
+        built = rw (records, sym next) (j .built);
+        runs = rw (records, made, sym next) (j .runs);
+        ends = rw (records, sym next, index) (j .ends);
+      }
 
       after-instruction : (node : ℕ) → statementAt (src .list) i ≡ Instruction node → Laid (suc n) i
       unfolding gather builtAt
@@ -202,13 +222,18 @@ module _
           }
 
       after : (s : Statement) → statementAt (src .list) i ≡ s → isCode s ≡ true → Laid (suc n) i
-      after Label is c = after-label is
+      after Label is c =
+          let s = all i h in
+          after-nothing (label-next src o i s is) (label-made src o i s is) (label-records src o i s is)
       after (Instruction node) is c = after-instruction node is
       after (Rmb node) is c = no-code c
       after (Fcb first count) is c = no-code c
       after (Fdb first count) is c = no-code c
       after (Fcc first count) is c = no-code c
       after (Org node) is c = no-code c
+      after (Setdp number) is c =
+          let s = all i h in
+          after-nothing (setdp-next src o i s number is) (setdp-made src o i s number is) (setdp-records src o i s number is)
       after Unknown is c = no-code c
 
     module _ (code : (i : ℕ) → i < fine → isCode (statementAt (src .list) i) ≡ true) where
@@ -252,7 +277,7 @@ module _ (src : Source) (ls : List ℕ) (z : endedOf src ls .refusal ≡ 0) wher
       ∙ ap (λ (k : ℕ). runsOf (pieces (madeFrom src (passedOf src ls) k 0))) (ap (λ (e : Ended). e .fine) ended-passed ∙ all-fine)
 
 pub settled-reads : SettledDemand
-settled-reads src ls code z nodes-fit lent-fits =
+settled-reads page src ls code met z nodes-fit lent-fits =
     let o = passedOf src ls in
     let rows = rowsOf (src .list) in
     let fine = all-fine src ls z in
@@ -262,12 +287,82 @@ settled-reads src ls code z nodes-fit lent-fits =
     let end = last-near src o rows (λ i h. passed-stand src ls i (omega (arith, fine))) code rows (omega arith) in
     let within : length (bytesIs src ls) ≤ 65536 = omega (arith, rw start at (j .ends), end, ap (addressAt src o) (zero-add rows)) in
     let laid-so = fits-laid (recordsIs src ls) 0 65536 (record { built = rw start at (j .built); within = omega arith; enough = within }) in
-    let all = laid-whole (recordsIs src ls) 0 65536 (bytesIs src ls) (omega arith) laid-so in
+    let all = laid-whole page (recordsIs src ls) 0 65536 (bytesIs src ls) (omega arith) met laid-so in
     record {
       laid = laid-so;
       run = text-runs src ls z nodes-fit lent-fits ∙ (rw start at (j .runs));
-      same = laid-decodes (recordsIs src ls) 0 65536 (bytesIs src ls) (omega arith) laid-so;
+      same = laid-decodes page (recordsIs src ls) 0 65536 (bytesIs src ls) (omega arith) met laid-so;
       accepted = all .0;
       number = all .1;
       whole = all .2;
     }
+
+-- ---- without SETDP
+-- under page 0, or under none
+abbrev Met : Page → Type 0
+Met page = meets (Known 0) page ≡ true
+
+module _ (src : Source) (o : Outcome) (i : ℕ) (s : Stands src o i) (met : Met (pageAt src o i)) where
+  label-met : statementAt (src .list) i ≡ Label → Met (turned (own src o i .turn) (pageAt src o i))
+  unfolding effectAt
+  label-met is = rw is met
+
+  instruction-met : (node : ℕ) → statementAt (src .list) i ≡ Instruction node → Met (turned (own src o i .turn) (pageAt src o i))
+  instruction-met node is =
+      subst Met
+      (sym (instruction-turns (src .list) (src .items) (src .nodes) (o .table) i (addressAt src o i % 65536) (pageAt src o i) false node is (s .accepted)))
+      (by-pick Met _ refl met)
+
+  next-met : (x : Statement) → statementAt (src .list) i ≡ x → isCode x ≡ true → setsPage x ≡ false → Met (pageAt src o (i + 1))
+  next-met Label is c p = rw (s .page) (label-met is)
+  next-met (Instruction node) is c p = rw (s .page) (instruction-met node is)
+  next-met (Rmb node) is c p = no-code c
+  next-met (Fcb first count) is c p = no-code c
+  next-met (Fdb first count) is c p = no-code c
+  next-met (Fcc first count) is c p = no-code c
+  next-met (Org node) is c p = no-code c
+  next-met (Setdp number) is c p = no-code (sym p)
+  next-met Unknown is c p = no-code c
+
+module _
+    (src : Source) (o : Outcome) (fine : ℕ) (all : (i : ℕ) → i < fine → Stands src o i)
+    (code : (i : ℕ) → i < fine → isCode (statementAt (src .list) i) ≡ true) (plain : (i : ℕ) → i < fine → setsPage (statementAt (src .list) i) ≡ false)
+  where
+    page-met : (n : ℕ) → n ≤ fine → Met (pageAt src o n)
+    unfolding pageAt walkTo walkOf
+    page-met zero h = refl
+    page-met (suc n) h =
+        let e : suc n ≡ n + 1 = omega arith in
+        rw e (next-met src o n (all n (omega arith)) (page-met n (omega arith)) (statementAt (src .list) n) refl (code n (omega arith)) (plain n (omega arith)))
+
+-- the record of an instruction has the page where it stands
+records-met :
+    (page : Page) (src : Source) (o : Outcome) (i : ℕ) (rest : List Record) (x : Statement) → statementAt (src .list) i ≡ x →
+    meets page (pageAt src o i) ≡ true → allMeet page rest ≡ true → allMeet page (recordsIn src o i ++ rest) ≡ true
+unfolding recordsIn allMeet
+records-met page src o i rest Label is m r = rw is r
+records-met page src o i rest (Instruction node) is m r = rw (is, m) r
+records-met page src o i rest (Rmb node) is m r = rw is r
+records-met page src o i rest (Fcb first count) is m r = rw is r
+records-met page src o i rest (Fdb first count) is m r = rw is r
+records-met page src o i rest (Fcc first count) is m r = rw is r
+records-met page src o i rest (Org node) is m r = rw is r
+records-met page src o i rest (Setdp number) is m r = rw is r
+records-met page src o i rest Unknown is m r = rw is r
+
+all-met :
+    (page : Page) (src : Source) (o : Outcome) (n i : ℕ) → ((k : ℕ) → k < i + n → meets page (pageAt src o k) ≡ true) →
+    allMeet page (recordsFrom src o n i) ≡ true
+unfolding gather allMeet
+all-met page src o zero i m = refl
+all-met page src o (suc n) i m =
+    records-met page src o i (recordsFrom src o n (i + 1)) (statementAt (src .list) i) refl (m i (omega arith))
+    (all-met page src o n (i + 1) (λ k h. m k (omega arith)))
+
+pub settled-under-zero : SettledUnderZero
+settled-under-zero src ls code plain z nodes-fit lent-fits =
+    let o = passedOf src ls in
+    let rows = rowsOf (src .list) in
+    let fine = all-fine src ls z in
+    let met = page-met src o rows (λ i h. passed-stand src ls i (omega (arith, fine))) code plain in
+    settled-reads (Known 0) src ls code (all-met (Known 0) src o rows 0 (λ k h. met k (omega arith))) z nodes-fit lent-fits

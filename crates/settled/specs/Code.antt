@@ -1,10 +1,11 @@
--- A settled list of instructions and bare labels: its operand records, as the passes settled them.
+-- A settled list of instructions, bare labels and SETDP: its operand records, as the passes settled them.
 use Prim.Native.Nat.{ℕ, _%_}
 use mathlib.Core.Bool.{Bool, true, false}
 use mathlib.Core.List.{List, [], _∷_}
+use Rattle.values.specs.declared.pages.Page.{Page}
 use Rattle.instruction.specs.declared.Record.{Record}
 use Rattle.statements.specs.declared.Statement.{Statement}
-use Rattle.statements.specs.declared.Statement.the-variants.{Label, Instruction, Rmb, Fcb, Fdb, Fcc, Org, Unknown}
+use Rattle.statements.specs.declared.Statement.the-variants.{Label, Instruction, Rmb, Fcb, Fdb, Fcc, Org, Setdp, Unknown}
 use Rattle.statements.specs.declared.Entry.{Entry}
 use Rattle.statements.specs.Listing.{rowsOf, statementAt, entryAt}
 use Rattle.statements.specs.Asking.{askedOf}
@@ -13,7 +14,7 @@ use Rattle.passes.specs.Walks.{Source}
 use Rattle.passes.specs.Passes.{Outcome, passedOf}
 use Rattle.assembly.specs.Objects.{addressAt, pageAt, gather}
 
--- an instruction or a bare label
+-- an instruction, or what leaves no trace in the text: a bare label, SETDP
 abbrev pub isCode : Statement → Bool
 isCode Label = true
 isCode (Instruction node) = true
@@ -22,10 +23,23 @@ isCode (Fcb first count) = false
 isCode (Fdb first count) = false
 isCode (Fcc first count) = false
 isCode (Org node) = false
+isCode (Setdp number) = true
 isCode Unknown = false
 
--- the operand record of an instruction that stands at an address, with the values that its operand has there; a label has none
-abbrev pub recordsOf : Statement → Entry → List ℕ → List ℕ → ℕ → Bool → List Record
+-- "a statement SETDP .. sets it for the rest of a pass"
+abbrev pub setsPage : Statement → Bool
+setsPage Label = false
+setsPage (Instruction node) = false
+setsPage (Rmb node) = false
+setsPage (Fcb first count) = false
+setsPage (Fdb first count) = false
+setsPage (Fcc first count) = false
+setsPage (Org node) = false
+setsPage (Setdp number) = true
+setsPage Unknown = false
+
+-- the operand record of an instruction that stands at an address, with the values that its operand has there; a label and SETDP have none
+abbrev pub recordsOf : Statement → Entry → List ℕ → List ℕ → ℕ → Page → List Record
 recordsOf Label e ns ls here page = []
 recordsOf (Instruction node) e ns ls here page = recordOf e (askedOf ns ls node here) page ∷ []
 recordsOf (Rmb node) e ns ls here page = []
@@ -33,6 +47,7 @@ recordsOf (Fcb first count) e ns ls here page = []
 recordsOf (Fdb first count) e ns ls here page = []
 recordsOf (Fcc first count) e ns ls here page = []
 recordsOf (Org node) e ns ls here page = []
+recordsOf (Setdp number) e ns ls here page = []
 recordsOf Unknown e ns ls here page = []
 
 unfoldable pub recordsIn : Source → Outcome → ℕ → List Record
