@@ -3,38 +3,42 @@
 use mathlib.Core.Path.{_≡_, refl}
 use mathlib.Core.List.{List, [], _∷_, _++_, map}
 use Prim.Native.Nat.{ℕ}
-use lib.ListN.{replicate}
+use lib.ListN.{take, replicate}
 use Rattle.ground.specs.Choice.{pick}
 use Rattle.values.specs.Widths.{bitsOf, validOf}
 use Rattle.rows.specs.Sheet.{page0, page10, page11, tableOf}
 use Rattle.rows.specs.Lookup.{mergedOf, placed, hasFormOf, knownOf, codeOf}
 use Rattle.rows.specs.Sizes.{isWide, isLong, numberSizeOf, longFrom, longOf}
 use Rattle.rows.specs.Sizes as sizes
-use Rattle.postbytes.specs.Lists.{anyUnknown, strangeList}
+use Rattle.postbytes.specs.Registers.{A, DP}
+use Rattle.postbytes.specs.Lists.{anyUnknown, strangeList, among, sizeOf}
+use Rattle.postbytes.specs.ListsWritten.{pairedOf}
+use Rattle.postbytes.specs.ListsWritten as written
 use Rattle.segments.specs.Segments.{holdsOf, inserted, refusalOf, addedTo, tableAfter}
 use Rattle.expressions.specs.Finding.{firstOf, joined, rowAt, labelRow, nodeIn, labelIn, nodeValue, labelValue}
 use Rattle.expressions.specs.Answers.{narrowOf, valueOf, answerOf, pairOf, evaluation, evaluations}
-use Rattle.instruction.specs.Names.{modeExtended}
+use Rattle.instruction.specs.Names.{modeRegister, modeExtended, tfr}
 use Rattle.instruction.specs.Records.{stepped, recognised, narrower, agreeing, lawful, sound}
-use Rattle.instruction.specs.Forms.{onPage, becomesDirect, extendedForm, formOf, strays, lacks, needsValue}
-use Rattle.instruction.specs.Choosing.{longBranch, branchOf, chooseOf}
+use Rattle.instruction.specs.Forms.{becomesDirect, extendedForm, registerForm, formOf, strays, lacks, needsValue}
+use Rattle.instruction.specs.Choosing.{anewAs, anewOf, addressOf, longBranch, branchOf, isPair, ownStack, listedOf, registersOf, chooseOf}
 use Rattle.instruction.specs.Bytes.{numberBytes, operandBytes, codeSize, behindCode, laidAt, laidOf}
-use Rattle.instruction.specs.Building.{instructionOf, madeAs, makeOf, operandRefusal, earlyOf, dirtiesOf, acceptedOf, finishedOf, buildOf, handed, freshFrom, freshOf}
+use Rattle.instruction.specs.Building.{noValues, instructionOf, madeAs, makeOf, operandRefusal, earlyOf, dirtiesOf, acceptedOf, finishedOf, buildOf, handed, freshFrom, freshOf}
 use Rattle.statements.specs.Order.{placeOf, earlier}
 use Rattle.entries.specs.Entries.{byteIn, isFlag, flagIn, flaggedIn, registersIn, fieldsIn, toldIn, operandOf}
-use Rattle.statements.specs.Listing.{none, numberAt, statementOf, statementAt, operandRow, entryIn, entryAt, overfullAt}
+use Rattle.statements.specs.Listing.{none, rowsOf, numberAt, statementOf, statementAt, operandRow, entryIn, entryAt, overfullAt}
 use Rattle.statements.specs.Asking.{askedOf, wantedOf}
-use Rattle.statements.specs.Effects.{ownLabel, entryRefusal, builtOf, instructionRefusal, instructionEffect, numberRefusal, reservedEffect, originEffect, effectAt, countedOf}
+use Rattle.statements.specs.Effects.{ownLabel, entryRefusal, builtOf, instructionRefusal, instructionEffect, numberRefusal, reservedEffect, originEffect, setdpEffect, effectAt, countedOf}
 use Rattle.passes.specs.declared.Settled.{Settled}
 use Rattle.passes.specs.Labels.{firstBearer, bearerOf, illOf, begunState, begunRows, begunTable, laidOver, labelFits, labelsFit}
 use Rattle.passes.specs.Walks.{source, marksOf, markedLabels, markedState, effectIn, sizedState, firstRefusal, judged, originState, advancedState, advancedStarts, markOf, resizeOf, advanceOf, doneOf, stepOf, walkOf, walkTo}
 use Rattle.passes.specs.Passes.{afterOf, settleOf, passedOf, overfullIn, tooMany, endedOf, settledRefusal, settledOf, labelsAfter}
 use Rattle.passes.specs.Passes as passes
 
--- node 0 is 200, 1 label 0, 2 one, 3 one less label 0, 4 hexadecimal 1000, 5 FFFF, 6 label 1, 7 label 2, 8 hexadecimal 100
+-- node 0 is 200, 1 label 0, 2 one, 3 one less label 0, 4 hexadecimal 1000, 5 FFFF, 6 label 1, 7 label 2, 8 hexadecimal 100, 9 hexadecimal 2005, 10 five
 abbrev nodes : List ℕ
 nodes =
-    0 ∷ 200 ∷ 0 ∷ 1 ∷ 0 ∷ 0 ∷ 0 ∷ 1 ∷ 0 ∷ 5 ∷ 2 ∷ 1 ∷ 0 ∷ 0x1000 ∷ 0 ∷ 0 ∷ 0xFFFF ∷ 0 ∷ 1 ∷ 1 ∷ 0 ∷ 1 ∷ 2 ∷ 0 ∷ 0 ∷ 0x100 ∷ 0 ∷ []
+    0 ∷ 200 ∷ 0 ∷ 1 ∷ 0 ∷ 0 ∷ 0 ∷ 1 ∷ 0 ∷ 5 ∷ 2 ∷ 1 ∷ 0 ∷ 0x1000 ∷ 0 ∷ 0 ∷ 0xFFFF ∷ 0 ∷ 1 ∷ 1 ∷ 0 ∷ 1 ∷ 2 ∷ 0 ∷ 0 ∷ 0x100 ∷ 0
+    ∷ 0 ∷ 0x2005 ∷ 0 ∷ 0 ∷ 5 ∷ 0 ∷ []
 
 -- label 0 stands at a statement or nowhere, whatever address it had; label 1 is label 2, which is node 0
 abbrev labels : List ℕ
@@ -52,6 +56,16 @@ org node = row 6 none node
 
 abbrev bra : ℕ → List ℕ
 bra node = 1 ∷ none ∷ node ∷ 0 ∷ 0 ∷ 80 ∷ modeExtended ∷ 0 ∷ 0 ∷ 0 ∷ 1 ∷ replicate 9 0
+
+abbrev setdp : ℕ → List ℕ
+setdp number = row 7 none number
+
+abbrev lda : ℕ → List ℕ
+lda node = 1 ∷ none ∷ node ∷ 0 ∷ 0 ∷ 54 ∷ modeExtended ∷ replicate 13 0
+
+-- TFR A,DP
+abbrev transfer : List ℕ
+transfer = 1 ∷ none ∷ none ∷ 0 ∷ 0 ∷ tfr ∷ modeRegister ∷ 0 ∷ 0 ∷ 0 ∷ 0 ∷ 2 ∷ A ∷ DP ∷ replicate 6 0
 
 -- label 0, alone
 abbrev here : List ℕ
@@ -102,14 +116,14 @@ answered =
     ∷ []
 
 pub cases : map ask asked ≡ answered
-unfolding pick bitsOf validOf tableOf page0 page10 page11 mergedOf placed hasFormOf knownOf codeOf isWide isLong sizes.numberAt numberSizeOf longFrom longOf anyUnknown strangeList holdsOf inserted refusalOf addedTo tableAfter firstOf joined rowAt labelRow nodeIn labelIn nodeValue labelValue narrowOf valueOf answerOf pairOf evaluation evaluations stepped recognised narrower agreeing lawful sound onPage becomesDirect extendedForm formOf strays lacks needsValue longBranch branchOf chooseOf numberBytes operandBytes codeSize behindCode laidAt laidOf instructionOf madeAs makeOf operandRefusal earlyOf dirtiesOf acceptedOf finishedOf buildOf handed freshFrom freshOf placeOf earlier numberAt statementOf statementAt byteIn isFlag flagIn flaggedIn registersIn fieldsIn toldIn operandOf operandRow entryIn entryAt overfullAt askedOf wantedOf ownLabel entryRefusal builtOf instructionRefusal instructionEffect numberRefusal reservedEffect originEffect effectAt countedOf firstBearer bearerOf illOf begunState begunRows begunTable marksOf markedLabels markedState effectIn sizedState firstRefusal judged originState advancedState advancedStarts markOf resizeOf advanceOf doneOf stepOf walkOf walkTo passes.answerOf afterOf settleOf passedOf overfullIn tooMany endedOf labelFits labelsFit settledRefusal settledOf
+unfolding pick bitsOf validOf tableOf page0 page10 page11 mergedOf placed hasFormOf knownOf codeOf isWide isLong sizes.numberAt numberSizeOf longFrom longOf anyUnknown strangeList holdsOf inserted refusalOf addedTo tableAfter firstOf joined rowAt labelRow nodeIn labelIn nodeValue labelValue narrowOf valueOf answerOf pairOf evaluation evaluations stepped recognised narrower agreeing lawful sound becomesDirect extendedForm formOf strays lacks needsValue longBranch branchOf chooseOf numberBytes operandBytes codeSize behindCode laidAt laidOf instructionOf madeAs makeOf operandRefusal earlyOf dirtiesOf acceptedOf finishedOf buildOf handed freshFrom freshOf placeOf earlier numberAt statementOf statementAt byteIn isFlag flagIn flaggedIn registersIn fieldsIn toldIn operandOf operandRow entryIn entryAt overfullAt askedOf wantedOf ownLabel entryRefusal builtOf instructionRefusal instructionEffect numberRefusal reservedEffect originEffect effectAt countedOf firstBearer bearerOf illOf begunState begunRows begunTable marksOf markedLabels markedState effectIn sizedState firstRefusal judged originState advancedState advancedStarts markOf resizeOf advanceOf doneOf stepOf walkOf walkTo passes.answerOf afterOf settleOf passedOf overfullIn tooMany endedOf labelFits labelsFit settledRefusal settledOf
 cases = refl
 
 -- the lent table after the branch, and after a refusal
 pub tables :
     map (λ (list : List ℕ). labelsAfter (source list [] nodes) labels) ((bra 1 ++ rmb 0 ++ here) ∷ (here ++ here) ∷ [])
     ≡ (1 ∷ 203 ∷ 0 ∷ 2 ∷ 0 ∷ 7 ∷ 2 ∷ 0 ∷ 0 ∷ []) ∷ labels ∷ []
-unfolding pick bitsOf validOf tableOf page0 page10 page11 mergedOf placed hasFormOf knownOf codeOf isWide isLong sizes.numberAt numberSizeOf longFrom longOf anyUnknown strangeList holdsOf inserted refusalOf addedTo tableAfter firstOf joined rowAt labelRow nodeIn labelIn nodeValue labelValue narrowOf valueOf answerOf pairOf evaluation evaluations stepped recognised narrower agreeing lawful sound onPage becomesDirect extendedForm formOf strays lacks needsValue longBranch branchOf chooseOf numberBytes operandBytes codeSize behindCode laidAt laidOf instructionOf madeAs makeOf operandRefusal earlyOf dirtiesOf acceptedOf finishedOf buildOf handed freshFrom freshOf placeOf earlier numberAt statementOf statementAt byteIn isFlag flagIn flaggedIn registersIn fieldsIn toldIn operandOf operandRow entryIn entryAt overfullAt askedOf wantedOf ownLabel entryRefusal builtOf instructionRefusal instructionEffect numberRefusal reservedEffect originEffect effectAt countedOf firstBearer bearerOf illOf begunState begunRows begunTable marksOf markedLabels markedState effectIn sizedState firstRefusal judged originState advancedState advancedStarts markOf resizeOf advanceOf doneOf stepOf walkOf walkTo passes.answerOf afterOf settleOf passedOf overfullIn tooMany endedOf labelFits labelsFit settledRefusal settledOf laidOver labelsAfter
+unfolding pick bitsOf validOf tableOf page0 page10 page11 mergedOf placed hasFormOf knownOf codeOf isWide isLong sizes.numberAt numberSizeOf longFrom longOf anyUnknown strangeList holdsOf inserted refusalOf addedTo tableAfter firstOf joined rowAt labelRow nodeIn labelIn nodeValue labelValue narrowOf valueOf answerOf pairOf evaluation evaluations stepped recognised narrower agreeing lawful sound becomesDirect extendedForm formOf strays lacks needsValue longBranch branchOf chooseOf numberBytes operandBytes codeSize behindCode laidAt laidOf instructionOf madeAs makeOf operandRefusal earlyOf dirtiesOf acceptedOf finishedOf buildOf handed freshFrom freshOf placeOf earlier numberAt statementOf statementAt byteIn isFlag flagIn flaggedIn registersIn fieldsIn toldIn operandOf operandRow entryIn entryAt overfullAt askedOf wantedOf ownLabel entryRefusal builtOf instructionRefusal instructionEffect numberRefusal reservedEffect originEffect effectAt countedOf firstBearer bearerOf illOf begunState begunRows begunTable marksOf markedLabels markedState effectIn sizedState firstRefusal judged originState advancedState advancedStarts markOf resizeOf advanceOf doneOf stepOf walkOf walkTo passes.answerOf afterOf settleOf passedOf overfullIn tooMany endedOf labelFits labelsFit settledRefusal settledOf laidOver labelsAfter
 tables = refl
 
 -- a lent table of so many numbers, all 0
@@ -122,3 +136,20 @@ pub rooms :
     ≡ refused 9 1 ∷ refused 9 1 ∷ settled 1 0 ∷ refused 1 1 ∷ []
 unfolding pick labelRow rowAt placeOf earlier numberAt statementOf statementAt entryAt entryIn overfullAt ownLabel effectAt countedOf firstBearer bearerOf illOf begunState begunRows begunTable marksOf markedLabels markedState effectIn sizedState firstRefusal judged advancedState advancedStarts markOf resizeOf advanceOf doneOf stepOf walkOf walkTo passes.answerOf afterOf settleOf passedOf overfullIn tooMany endedOf labelFits labelsFit settledRefusal settledOf
 rooms = refl
+
+-- what the passes answer, and the size of each statement
+abbrev sized : List ℕ → Settled × List ℕ
+sized list = (ask list, take (rowsOf list) (passedOf (source list [] nodes) labels .sizes))
+
+-- the page: set, forgotten and set again; set at the end of a pass, where the next pass begins at page 0 again; not set by SETDP 256
+pub pages :
+    sized (setdp 0x20 ++ lda 9 ++ transfer ++ lda 9 ++ setdp 0 ++ lda 10)
+    ∷ sized (lda 10 ++ setdp 0x20)
+    ∷ sized (setdp 256 ++ lda 10)
+    ∷ []
+    ≡ (settled 2 9, 0 ∷ 2 ∷ 2 ∷ 3 ∷ 0 ∷ 2 ∷ [])
+    ∷ (settled 2 2, 2 ∷ 0 ∷ [])
+    ∷ (refused 1 2, 0 ∷ 2 ∷ [])
+    ∷ []
+unfolding pick bitsOf validOf tableOf page0 page10 page11 mergedOf placed hasFormOf knownOf codeOf isWide isLong sizes.numberAt numberSizeOf anyUnknown strangeList among sizeOf pairedOf written.codeOf rowAt labelRow nodeIn nodeValue narrowOf valueOf pairOf evaluations stepped recognised narrower agreeing lawful sound becomesDirect extendedForm registerForm formOf strays lacks needsValue anewAs anewOf addressOf isPair ownStack listedOf registersOf chooseOf numberBytes operandBytes codeSize behindCode laidAt laidOf noValues instructionOf madeAs makeOf operandRefusal earlyOf dirtiesOf acceptedOf finishedOf buildOf handed freshFrom freshOf placeOf earlier numberAt statementOf statementAt byteIn isFlag flagIn flaggedIn registersIn fieldsIn toldIn operandOf operandRow entryIn entryAt overfullAt askedOf ownLabel entryRefusal builtOf instructionRefusal instructionEffect setdpEffect effectAt countedOf firstBearer bearerOf illOf begunState begunRows begunTable marksOf markedLabels markedState effectIn sizedState firstRefusal judged advancedState advancedStarts markOf resizeOf advanceOf doneOf stepOf walkOf walkTo passes.answerOf afterOf settleOf passedOf overfullIn tooMany endedOf labelFits labelsFit settledRefusal settledOf
+pages = refl

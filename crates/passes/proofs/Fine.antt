@@ -2,7 +2,7 @@
 -- walk on by its own effect alone. So what is written out of a settled pass needs no segments and no refusals.
 -- Assumes nothing.
 use mathlib.Core.Path.{_≡_, refl, sym, ap, subst, _∙_}
-use mathlib.Core.Bool.{Bool, true, false, _||_, not}
+use mathlib.Core.Bool.{Bool, true, false, not}
 use mathlib.Core.List.{List}
 use Prim.Native.Nat.{ℕ, zero, suc, _+_, _-_, _≤_, _<_}
 use native.Mathlib.Nat.{le-of-suc-le-suc}
@@ -14,6 +14,7 @@ use Rattle.ground.specs.Choice.{pick}
 use Rattle.ground.proofs.Choices.{pick-true, pick-false, by-pick, by-test}
 use Rattle.segments.specs.Segments.{addedTo}
 use Rattle.statements.specs.declared.Effect.{Effect}
+use Rattle.statements.specs.Turns.{turned}
 use Rattle.statements.specs.Effects.{effectAt, countedOf}
 use Rattle.statements.proofs.Sizes.{counted-accepted}
 use Rattle.passes.specs.declared.walk.State.{State}
@@ -129,11 +130,7 @@ module _ (src : Source) where
 pub record Goes (e : Effect) (s t : State) : Type 0 where
   pub accepted : e .refusal ≡ 0
   pub at : t .at ≡ pick (e .moves) (e .to) (s .at + e .size)
-  pub dirty : t .dirty ≡ s .dirty || e .dirties
-
-or-false : (a b : Bool) → b ≡ false → a ≡ a || b
-or-false true b e = refl
-or-false false b e = sym e
+  pub page : t .page ≡ turned (e .turn) (s .page)
 
 first-both : (a b : ℕ) → firstRefusal a b ≡ 0 → b ≡ 0
 unfolding firstRefusal
@@ -152,17 +149,17 @@ advanced-goes true ts i e s m k z =
     rw m (record {
       accepted = plain .accepted;
       at = rw (eq-eqb (a .refusal) 0 none);
-      dirty = rw (eq-eqb (a .refusal) 0 none) (or-false (s .dirty) (e .dirties) (plain .clean));
+      page = rw (eq-eqb (a .refusal) 0 none, plain .keeping);
     })
 advanced-goes false ts i e s m k z =
     let z′ = rw m at z in
-    rw m (record { accepted = first-both (s .refusal) (e .refusal) z′; at = refl; dirty = refl })
+    rw m (record { accepted = first-both (s .refusal) (e .refusal) z′; at = refl; page = refl })
 
 -- statement i of a settled pass, one of those before the refused one: its effect is its own, from the settled labels, and its label is not refused
 pub settled-goes :
     (src : Source) (ls zs : List ℕ) → passOf src ls zs .state .changed ≡ false → (i : ℕ) → i < passOf src ls zs .state .fine →
     let s = walkTo src ls zs i .state in
-    let e = effectAt (src .list) (src .items) (src .nodes) ls i (hereOf s) (s .dirty) false in
+    let e = effectAt (src .list) (src .items) (src .nodes) ls i (hereOf s) (s .page) false in
     Goes e s (walkTo src ls zs (i + 1) .state) × (s .at + e .size ≤ 65536) × (illOf (src .list) i ≡ false)
 unfolding effectIn
 settled-goes src ls zs h i b =
@@ -170,17 +167,17 @@ settled-goes src ls zs h i b =
     let t = walkTo src ls zs (i + 1) .state in
     let m = fine-most src ls zs (rowsOf (src .list)) in
     let ill = illOf (src .list) i in
-    let e = effectAt (src .list) (src .items) (src .nodes) ls i (hereOf s) (s .dirty) ill in
+    let e = effectAt (src .list) (src .items) (src .nodes) ls i (hereOf s) (s .page) ill in
     let step = settled-effects src ls zs h i (omega arith) in
     let z = ap (λ (x : State). x .refusal) (sym step) ∙ fine-accepted src ls zs i b in
     let c = countedOf (s .at) e in
-    let goes = advanced-goes (c .moves) (walkTo src ls zs i .starts) i c s refl (counted-moving (s .at) (src .list) (src .items) (src .nodes) ls i (hereOf s) (s .dirty) ill) z in
+    let goes = advanced-goes (c .moves) (walkTo src ls zs i .starts) i c s refl (counted-moving (s .at) (src .list) (src .items) (src .nodes) ls i (hereOf s) (s .page) ill) z in
     let own = counted-accepted (s .at) e (goes .accepted) in
-    let well = accepted-well (src .list) (src .items) (src .nodes) ls i (hereOf s) (s .dirty) ill (own .1) in
+    let well = accepted-well (src .list) (src .items) (src .nodes) ls i (hereOf s) (s .page) ill (own .1) in
     let goes-on : Goes c s t = rw step goes in
     let goes-own : Goes e s t = rw (own .0) at goes-on in
     subst
     (λ (x : Bool).
-    let f = effectAt (src .list) (src .items) (src .nodes) ls i (hereOf s) (s .dirty) x in
+    let f = effectAt (src .list) (src .items) (src .nodes) ls i (hereOf s) (s .page) x in
     Goes f s t × (s .at + f .size ≤ 65536) × (ill ≡ false))
     well (goes-own, own .2, well)

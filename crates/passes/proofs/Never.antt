@@ -62,7 +62,7 @@ module _ (src : Source) where
       let e = effectIn src (m .labels) i s in
       let marked : Running (m .state .refusal) = by-pick (λ (t : State). Running (t .refusal)) (marksOf (src .list) i) before before in
       advanced-running (w .starts) i e (sizedState (w .sizes) i e (m .state)) marked
-      (counted-running (s .at) (src .list) (src .items) (src .nodes) (m .labels) i (hereOf s) (s .dirty) (illOf (src .list) i))
+      (counted-running (s .at) (src .list) (src .items) (src .nodes) (m .labels) i (hereOf s) (s .page) (illOf (src .list) i))
 
   walk-running : (n i : ℕ) (w : Walk) → Running (w .state .refusal) → Running (walkOf src n i w .state .refusal)
   unfolding walkOf

@@ -29,7 +29,7 @@ same-cell l i v e =
 untouched : (other : Bool) (s : State) → s .changed || other ≡ false → touched other s ≡ s
 untouched other s e =
     ap {B = State}
-    (λ (b : Bool). record { at = s .at; count = s .count; dirty = s .dirty; refusal = s .refusal; fine = s .fine; changed = b })
+    (λ (b : Bool). record { at = s .at; count = s .count; page = s .page; refusal = s .refusal; fine = s .fine; changed = b })
     (e ∙ sym (neither-left (s .changed) other e))
 
 advanced-changed : (ts : List ℕ) (i : ℕ) (e : Effect) (s : State) → advancedState ts i e s .changed ≡ s .changed

@@ -6,8 +6,10 @@ use lib.ListN.{getD, set, replicate}
 use lib.Dec.{eqb}
 use Rattle.ground.specs.Choice.{pick}
 use Rattle.segments.specs.Segments.{addedTo, tableAfter}
+use Rattle.values.specs.declared.pages.Page.the-variants.{Known}
 use Rattle.statements.specs.declared.Effect.{Effect}
 use Rattle.statements.specs.Listing.{none, labelAt}
+use Rattle.statements.specs.Turns.{turned}
 use Rattle.statements.specs.Effects.{effectAt, countedOf}
 use Rattle.passes.specs.declared.walk.State.{State}
 use Rattle.passes.specs.Labels.{illOf}
@@ -31,9 +33,9 @@ pub record Walk : Type 0 where
 abbrev pub walk : State → List ℕ → List ℕ → List ℕ → Walk
 walk s ls zs ts = record { state = s; labels = ls; sizes = zs; starts = ts }
 
--- "A pass walks from 0 with the page clean"; no segment but 0 is counted, no statement is refused or passed yet, and nothing has changed
+-- "A pass walks from 0 with the page clean", which is page 0; no segment but 0 is counted, no statement is refused or passed yet, and nothing has changed
 abbrev pub begun : State
-begun = record { at = 0; count = 0; dirty = false; refusal = 0; fine = 0; changed = false }
+begun = record { at = 0; count = 0; page = Known 0; refusal = 0; fine = 0; changed = false }
 
 -- the location of a statement: "Running to 65536 is allowed; a label there is 0"
 abbrev pub hereOf : State → ℕ
@@ -44,7 +46,7 @@ abbrev pub touched : Bool → State → State
 touched other s = record {
   at = s .at;
   count = s .count;
-  dirty = s .dirty;
+  page = s .page;
   refusal = s .refusal;
   fine = s .fine;
   changed = s .changed || other;
@@ -69,7 +71,7 @@ markedState list i s ls = pick (marksOf list i) (touched (not (eqb (getD ls (cel
 -- "fresh instructions": its effect at the running address on the pass's page, whatever size it had in the pass before
 unfoldable pub effectIn : Source → List ℕ → ℕ → State → Effect
 effectIn src ls i s =
-    countedOf (s .at) (effectAt (src .list) (src .items) (src .nodes) ls i (hereOf s) (s .dirty) (illOf (src .list) i))
+    countedOf (s .at) (effectAt (src .list) (src .items) (src .nodes) ls i (hereOf s) (s .page) (illOf (src .list) i))
 
 -- ---- its size is kept, to see whether a pass changes it
 unfoldable pub sizedState : List ℕ → ℕ → Effect → State → State
@@ -85,18 +87,18 @@ unfoldable pub judged : ℕ → ℕ → State → State
 judged i why s = record {
   at = s .at;
   count = s .count;
-  dirty = s .dirty;
+  page = s .page;
   refusal = firstRefusal (s .refusal) why;
   fine = pick (eqb (firstRefusal (s .refusal) why) 0) (i + 1) (s .fine);
   changed = s .changed;
 }
 
--- "size is added", and the page is dirty once it was dirtied
+-- "size is added", and the page is what the statement leaves
 abbrev pub grown : Effect → State → State
 grown e s = record {
   at = s .at + e .size;
   count = s .count;
-  dirty = s .dirty || e .dirties;
+  page = turned (e .turn) (s .page);
   refusal = s .refusal;
   fine = s .fine;
   changed = s .changed;
@@ -107,7 +109,7 @@ abbrev pub moved : ℕ → ℕ → State → State
 moved to count s = record {
   at = to;
   count = count;
-  dirty = s .dirty;
+  page = s .page;
   refusal = s .refusal;
   fine = s .fine;
   changed = s .changed;

@@ -8,6 +8,7 @@ use statements::effects::effect;
 use statements::listing::NONE;
 use statements::listing::label_at;
 use statements::listing::rows_of;
+use values::pages::Page;
 ghost use mathlib.Core.Path.{_≡_};
 ghost use mathlib.Core.Bool.{not};
 ghost use Prim.Native.Nat.{_+_, _*_, _≤_, _<_};
@@ -20,12 +21,12 @@ ghost use Rattle.passes.specs.Walks.{source, walk, begun, hereOf, touche
 ghost use Rattle.passes.specs.Walks.{firstRefusal, judged, grown, moved, originState, advancedState, advancedStarts, stepOf, walkOf};
 ghost use Rattle.passes.specs.Steps.{bearersOf};
 
-// The running address, 0 to 65536; the segment starts beside 0; whether the page is dirty; the first refusal, 0 for none; how many statements
+// The running address, 0 to 65536; the segment starts beside 0; the page; the first refusal, 0 for none; how many statements
 // stand before the refused one; and whether an address or a size changed.
 pub(crate) struct State {
     pub at: u32,
     pub count: usize,
-    pub dirty: bool,
+    pub page: Page,
     pub refusal: u8,
     pub fine: usize,
     pub changed: bool,
@@ -96,9 +97,10 @@ impl State {
         ensures { λ r. ⌜ r ≡ effectIn (source (now (list .entry)) (now (items .entry)) (now (nodes .entry))) (now (labels .entry)) i self ⌝ }
     {
         let here = self.here();
+        let page = self.page;
         counted(
             self.at,
-            effect(list, items, nodes, labels, i, here, self.dirty, ill),
+            effect(list, items, nodes, labels, i, here, page, ill),
         )
     }
 
@@ -144,14 +146,23 @@ impl State {
         self
     }
 
-    // The size is added, and the page is dirty once an accepted instruction has dirtied it.
-    fn grow(mut self, e: Effect) -> Self
+    // The size is added, and the page is what the statement leaves.
+    fn grow(self, e: Effect) -> Self
         requires { ⌜ self .at + e .size ≤ 65536 ⌝ }
         ensures { λ r. ⌜ r ≡ grown e self ⌝ }
     {
-        self.at = self.at + e.size;
-        self.dirty = self.dirty | e.dirties;
-        self
+        let old = self.page;
+        let turn = e.turn;
+        let page = turn.turns(old);
+        let at = self.at + e.size;
+        State {
+            at,
+            count: self.count,
+            page,
+            refusal: self.refusal,
+            fine: self.fine,
+            changed: self.changed,
+        }
     }
 
     fn go(mut self, to: u16, count: usize) -> Self
@@ -218,7 +229,7 @@ fn step(
     sized.advance(starts, i, e)
 }
 
-// All statements, from address 0 with segment 0 alone and the page clean.
+// All statements, from address 0 with segment 0 alone and page 0.
 pub(crate) fn walk_all(
     list: &[u16],
     items: &[u16],
@@ -236,7 +247,7 @@ pub(crate) fn walk_all(
     let mut s = State {
         at: 0,
         count: 0,
-        dirty: false,
+        page: Page::Known(0),
         refusal: 0,
         fine: 0,
         changed: false,

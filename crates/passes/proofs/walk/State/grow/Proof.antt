@@ -1,15 +1,17 @@
--- `passes::walk::State::grow` meets its contract: two stores.
+-- `passes::walk::State::grow` meets its contract.
 -- Assumes nothing.
-use mathlib.Core.Path.{refl}
 use borrow.Author.Needs.{needs}
 use Rattle.passes.proofs.walk.State.grow.Statement.{statement}
 use Rattle.passes.proofs.walk.State.grow.Tie as tie
 
-add-self : tie.Need-add-self
-add-self c = search needs
+turns-requires : tie.Need-turns-requires
+turns-requires c κs = search needs
+
+add-at : tie.Need-add-at
+add-at c = search needs
 
 returns : tie.Need-returns
-returns c = refl
+returns c = cc
 
 pub grow-spec : {M : Type 1} → statement M
-grow-spec = tie.close (tie.spec add-self returns)
+grow-spec = tie.close (tie.spec turns-requires add-at returns)
