@@ -48,7 +48,8 @@ module _ (page code size : ℕ) (r : Rest) (a : ℕ) where
   unfolding joined operandOf numberedAt unseen shifted pick
   named-seen high (Is o form) d =
       rw (eqb-true form forms.direct d)
-      (by-pick (λ (x : Reading). joined size o x .refusal ≡ undefined → ⊥) (ltb (r .left) (numberAt forms.direct page code)) (λ z. omega arith) (λ z. omega arith))
+      (by-pick (λ (x : Reading). joined size o x .refusal ≡ undefined → ⊥) (ltb (r .left) (numberAt forms.direct page code))
+      (λ z. omega arith) (λ z. omega arith))
   named-seen high Undefined d = absurd (false≢true d)
 
 -- what an operand hangs on is the address
