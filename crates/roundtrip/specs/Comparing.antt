@@ -1,5 +1,5 @@
--- How a text of anyone's making, read under a page, compares with a list of instructions that is laid from an address. The list's meanings are its records'
--- own, so the pages that those were made under need not be the reader's: where one is not, the text just says something else.
+-- How a text of anyone's making, read under a page, compares with a list of instructions that is laid from an address. What the list means is its records' own
+-- and hangs on no reader's page, so every list that is laid is compared, whatever pages its records have.
 use mathlib.Core.Path.{_≡_}
 use Prim.Native.Nat.{ℕ}
 use mathlib.Core.Bool.{Bool, true, false, _&&_}

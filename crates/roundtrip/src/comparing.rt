@@ -59,8 +59,8 @@ fn meant_at(list: &[u16], row: usize, at: usize) -> Decoded
     meant(entry, (at % END) as u16)
 }
 
-// A list and a run, from one address. The list's meanings are its records' own, so that no page is needed to tell them; what agrees has one length, so one
-// place serves both.
+// A list and a run, from one address. What the list means is its records' own, never read from bytes, and hangs on no page. What agrees has one length, so
+// one place serves both.
 fn agree(list: &[u16], theirs: &[u8], address: u16, page: Page) -> Agreement
     requires { ⌜ outside (now theirs) (origin address page) ≡ false ⌝ }
     ensures { λ r. ⌜ r ≡ agreement (meaningsFrom (entriesOf (now (list .entry))) address) (runOf (now (theirs .entry)) (origin address page)) ⌝ }

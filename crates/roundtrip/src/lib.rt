@@ -19,8 +19,8 @@ pub struct Compared {
     pub place: usize,
 }
 
-// Whether the text's one run starts at the address and decodes under the page to the lengths and meanings of the list, under whatever pages its records were
-// made; where not, `place` is the first that differs. Refused as laying with room enough refuses the list, then as the reader refuses the text. A run has at
+// Whether the text's one run starts at the address and decodes under the page to the lengths and meanings of the list, whatever pages its records have; where
+// not, `place` is the first that differs. Refused as laying with room enough refuses the list, then as the reader refuses the text. A run has at
 // most 65,536 bytes.
 pub fn compare(list: &[u16], address: u16, page: Page, text: &[u8]) -> Compared
     ensures { λ r. ⌜ r ≡ compareOf (now (list .entry)) address page (now (text .entry)) ⌝ }
