@@ -1,6 +1,6 @@
 -- What an accepted statement puts into its object: its values, as rows of number and width, and so its bytes.
 use Prim.Native.Nat.{ℕ, _/_}
-use mathlib.Core.List.{List, [], _∷_}
+use mathlib.Core.List.{List, []}
 use lib.ListN.{length}
 use Rattle.values.specs.declared.pages.Page.{Page}
 use Rattle.instruction.specs.Building.{bytesIn}
