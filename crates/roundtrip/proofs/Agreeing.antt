@@ -53,7 +53,7 @@ module _ (l : List ℕ) (from : Origin) (at : ℕ) (q : outside l from ≡ false
       (s .0, omega (arith, length-drop at l))
 
 -- ---- side by side
--- the rows that are left after so many, and what they mean from an address on
+-- the rows that are left after so many
 abbrev leftOf : List ℕ → ℕ → List Record
 leftOf list place = entriesFrom (rowsIn list - place) list (place * 21)
 
