@@ -40,14 +40,14 @@ object-requires c κs =
     let pre = done .before .before .before .before .before .before .before .before .before .before .before .before .before .before .before .pre in
     (pre .held, pre .short, omega arith, omega (arith, done .done-at .ensures .1))
 
-cast-t24 : tie.Need-cast-t24
-cast-t24 c = search needs
+cast-t25 : tie.Need-cast-t25
+cast-t25 c = search needs
 
-mul-t25 : tie.Need-mul-t25
-mul-t25 c = search needs
+mul-t26 : tie.Need-mul-t26
+mul-t26 c = search needs
 
-add-t26 : tie.Need-add-t26
-add-t26 c =
+add-t27 : tie.Need-add-t27
+add-t27 c =
     let counted = c .before .before .before .before .before .before .before .before .before .before .before .before .before in
     omega (arith, counted .before .before .before .before .before .before .before .before .before .before .before .pre .values, counted .store-values .ok)
 
@@ -84,9 +84,9 @@ step-spec =
     cast-object
     cast-object-2
     object-requires
-    cast-t24
-    mul-t25
-    add-t26
+    cast-t25
+    mul-t26
+    add-t27
     same-length
     same-length-2
     returns)
