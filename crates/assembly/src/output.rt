@@ -131,17 +131,7 @@ fn step(
     let page = place.page;
     let tally = s.tally;
     let here = (place.at % 65536) as u16;
-    let count = store_values(
-        list,
-        items,
-        nodes,
-        labels,
-        i,
-        here,
-        page,
-        values,
-        s.values,
-    );
+    let count = store_values(list, items, nodes, labels, i, here, page, values, s.values);
     let kind = kind_at(list, i);
     let e = done_at(list, items, nodes, labels, i, place);
     let address = stands_at(e, here);

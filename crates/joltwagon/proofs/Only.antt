@@ -49,13 +49,13 @@ jw-assemble-single κs a x y s t p q = (p .0 ∙ sym (q .0), p .1 ∙ sym (q .1)
 pub jw-build-single : SingleLeaving 3 jw-build-kinds.ps jw-build-kinds.r (λ κs s. now (s .1 .1 .1 .0)) jw-build.Post
 jw-build-single κs a x y s t p q = (p .0 ∙ sym (q .0), p .1 ∙ sym (q .1))
 
-pub jw-decode-single : SingleLeaving 2 jw-decode-kinds.ps jw-decode-kinds.r (λ κs s. now (s .1 .1 .0)) jw-decode.Post
+pub jw-decode-single : SingleLeaving 2 jw-decode-kinds.ps jw-decode-kinds.r (λ κs s. now (s .1 .1 .1 .0)) jw-decode.Post
 jw-decode-single κs a x y s t p q = (p .0 ∙ sym (q .0), p .1 ∙ sym (q .1))
 
-pub jw-next-single : SingleLeaving 2 jw-next-kinds.ps jw-next-kinds.r (λ κs s. now (s .1 .1 .1 .0)) jw-next.Post
+pub jw-next-single : SingleLeaving 2 jw-next-kinds.ps jw-next-kinds.r (λ κs s. now (s .1 .1 .1 .1 .0)) jw-next.Post
 jw-next-single κs a x y s t p q = (p .0 ∙ sym (q .0), p .1 ∙ sym (q .1))
 
-pub jw-count-single : SingleLeaving 2 jw-count-kinds.ps jw-count-kinds.r (λ κs s. now (s .1 .1 .0)) jw-count.Post
+pub jw-count-single : SingleLeaving 2 jw-count-kinds.ps jw-count-kinds.r (λ κs s. now (s .1 .1 .1 .0)) jw-count.Post
 jw-count-single κs a x y s t p q = (p .0 ∙ sym (q .0), p .1 ∙ sym (q .1))
 
 pub jw-node-single : SingleLeaving 3 jw-node-kinds.ps jw-node-kinds.r (λ κs s. now (s .1 .1 .1 .1 .0)) jw-node.Post

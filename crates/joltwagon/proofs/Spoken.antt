@@ -15,7 +15,10 @@ use Rattle.answers.specs.Sizes.{sizeCells, flagCell}
 use Rattle.decoder.specs.declared.Decoded.{Decoded}
 use Rattle.decoder.specs.declared.Parts.{Parts}
 use Rattle.decoder.specs.declared.Counted.{Counted}
+use Rattle.decoder.specs.Origin.{origin}
 use Rattle.decoder.specs.Meaning.{partsOf}
+use Rattle.decoder.specs.Front.{decodeOf}
+use Rattle.decoder.specs.Run.{runOf, nextOf, countedOf}
 use Rattle.expressions.specs.declared.Answer.{Answer}
 use Rattle.expressions.specs.declared.Evaluated.{Evaluated}
 use Rattle.instruction.specs.declared.Instruction.{Instruction}
@@ -151,3 +154,17 @@ pub build-told :
     {b : Built} {i j : Instruction} {v w : Values} {p q : Page} (address : ℕ) → b ≡ buildOf i v p address → i ≡ j → v ≡ w → p ≡ q →
     b ≡ buildOf j w q address
 build-told address e f g h = cc
+
+-- what was read, under the page of a number
+pub decode-told :
+    {d : Decoded} {p q : Page} (bytes : List ℕ) (address : ℕ) → d ≡ decodeOf bytes (origin address p) → p ≡ q → d ≡ decodeOf bytes (origin address q)
+decode-told bytes address e f = cc
+
+pub next-told :
+    {d : Decoded} {p q : Page} (bytes : List ℕ) (address at : ℕ) → d ≡ nextOf bytes (origin address p) at → p ≡ q → d ≡ nextOf bytes (origin address q) at
+next-told bytes address at e f = cc
+
+pub count-told :
+    {c : Counted} {p q : Page} (bytes : List ℕ) (address : ℕ) → c ≡ countedOf (runOf bytes (origin address p)) → p ≡ q →
+    c ≡ countedOf (runOf bytes (origin address q))
+count-told bytes address e f = cc

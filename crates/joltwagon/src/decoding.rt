@@ -47,16 +47,19 @@ pub extern "C" fn jw_decode(bytes: &[u8], address: u16, page: u16, answer: &mut 
 
 // The instruction that begins at a place of a run, whose first byte stands at the address.
 #[no_mangle]
-pub extern "C" fn jw_next(bytes: &[u8], address: u16, page: u16, at: usize, answer: &mut [u16]) -> u8
+pub extern "C" fn jw_next(
+    bytes: &[u8],
+    address: u16,
+    page: u16,
+    at: usize,
+    answer: &mut [u16],
+) -> u8
     ensures { λ r. ⌜ r ≡ refusalOf (nextSaid (now (bytes .entry)) address page at) (length (now (answer .entry))) ⌝ }
     ensures { λ _. ⌜ now (answer .exit) ≡ cellsAfter (nextSaid (now (bytes .entry)) address page at) (now (answer .entry)) ⌝ }
 {
     if is_page(page) {
         let under = Page::numbered(page);
-        return hand_decoded(
-            decoder::next_of_run(bytes, address, under, at),
-            answer,
-        );
+        return hand_decoded(decoder::next_of_run(bytes, address, under, at), answer);
     }
     UNKNOWN
 }

@@ -11,8 +11,8 @@ use expressions::Evaluated;
 use ground::tables::byte;
 use instruction::Record;
 use instruction::Values;
-use values::pages::Page;
 use values::Value;
+use values::pages::Page;
 ghost use Prim.Native.Nat.{_<_};
 
 // The row of a line.

@@ -1,15 +1,11 @@
 -- `joltwagon::decoding::jw_count` meets its contract.
 -- Assumes nothing.
 use borrow.Author.Needs.{needs}
-use mathlib.Core.Path.{_∙_, ap}
 use mathlib.Core.Bool.{true, false}
 use Rattle.ground.proofs.Choices.{told}
-use Rattle.values.specs.declared.pages.Page.{Page}
-use Rattle.decoder.specs.Origin.{origin}
-use Rattle.decoder.specs.Run.{runOf, countedOf}
 use Rattle.answers.proofs.Laws.{said-as}
 use Rattle.joltwagon.specs.Decoding.{countSaid}
-use Rattle.joltwagon.proofs.Spoken.{counted-said, no-row, row}
+use Rattle.joltwagon.proofs.Spoken.{counted-said, no-row, row, count-told}
 use Rattle.joltwagon.proofs.decoding.jw_count.Statement.{statement}
 use Rattle.joltwagon.proofs.decoding.jw_count.Tie as tie
 
@@ -40,8 +36,7 @@ returns c =
     row _ _ (told true (c .before .before .before .before .before .before .before .before .before .is-page .ensures) (c .before .before .before .before .before .before .before .before .if1 .taken))
     (said-as _
     (counted-said
-    (c .before .before .before .before .before .before .count-run .ensures
-    ∙ ap (λ (p : Page). countedOf (runOf _ (origin _ p))) (c .before .before .before .before .before .before .before .numbered .ensures))
+    (count-told _ _ (c .before .before .before .before .before .before .count-run .ensures) (c .before .before .before .before .before .before .before .numbered .ensures))
     (c .before .before .before .before .before .size .ensures))
     (c .before .before .hand .ensures))
 

@@ -1,15 +1,12 @@
 -- `joltwagon::decoding::jw_decode` meets its contract.
 -- Assumes nothing.
 use borrow.Author.Needs.{needs}
-use mathlib.Core.Path.{_∙_, ap}
+use mathlib.Core.Path.{ap}
 use mathlib.Core.Bool.{true, false}
 use Rattle.ground.proofs.Choices.{told}
-use Rattle.values.specs.declared.pages.Page.{Page}
-use Rattle.decoder.specs.Origin.{origin}
-use Rattle.decoder.specs.Front.{decodeOf}
 use Rattle.answers.proofs.Laws.{said-as}
 use Rattle.joltwagon.specs.Decoding.{decodedSaid, decodeSaid}
-use Rattle.joltwagon.proofs.Spoken.{no-row, row}
+use Rattle.joltwagon.proofs.Spoken.{no-row, row, decode-told}
 use Rattle.joltwagon.proofs.decoding.jw_decode.Statement.{statement}
 use Rattle.joltwagon.proofs.decoding.jw_decode.Tie as tie
 
@@ -33,9 +30,7 @@ unfolding decodeSaid
 returns c =
     row _ _ (told true (c .before .before .before .before .before .before .before .is-page .ensures) (c .before .before .before .before .before .before .if1 .taken))
     (said-as _
-    (ap decodedSaid
-    (c .before .before .before .before .decode .ensures
-    ∙ ap (λ (p : Page). decodeOf _ (origin _ p)) (c .before .before .before .before .before .numbered .ensures)))
+    (ap decodedSaid (decode-told _ _ (c .before .before .before .before .decode .ensures) (c .before .before .before .before .before .numbered .ensures)))
     (c .before .before .hand-decoded .ensures))
 
 returns-2 : tie.Need-returns-2

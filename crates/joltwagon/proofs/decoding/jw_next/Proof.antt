@@ -1,15 +1,12 @@
 -- `joltwagon::decoding::jw_next` meets its contract.
 -- Assumes nothing.
 use borrow.Author.Needs.{needs}
-use mathlib.Core.Path.{_∙_, ap}
+use mathlib.Core.Path.{ap}
 use mathlib.Core.Bool.{true, false}
 use Rattle.ground.proofs.Choices.{told}
-use Rattle.values.specs.declared.pages.Page.{Page}
-use Rattle.decoder.specs.Origin.{origin}
-use Rattle.decoder.specs.Run.{nextOf}
 use Rattle.answers.proofs.Laws.{said-as}
 use Rattle.joltwagon.specs.Decoding.{decodedSaid, nextSaid}
-use Rattle.joltwagon.proofs.Spoken.{no-row, row}
+use Rattle.joltwagon.proofs.Spoken.{no-row, row, next-told}
 use Rattle.joltwagon.proofs.decoding.jw_next.Statement.{statement}
 use Rattle.joltwagon.proofs.decoding.jw_next.Tie as tie
 
@@ -33,9 +30,7 @@ unfolding nextSaid
 returns c =
     row _ _ (told true (c .before .before .before .before .before .before .before .is-page .ensures) (c .before .before .before .before .before .before .if1 .taken))
     (said-as _
-    (ap decodedSaid
-    (c .before .before .before .before .next-of-run .ensures
-    ∙ ap (λ (p : Page). nextOf _ (origin _ p) _) (c .before .before .before .before .before .numbered .ensures)))
+    (ap decodedSaid (next-told _ _ _ (c .before .before .before .before .next-of-run .ensures) (c .before .before .before .before .before .numbered .ensures)))
     (c .before .before .hand-decoded .ensures))
 
 returns-2 : tie.Need-returns-2
