@@ -323,7 +323,7 @@ uint32_t jw_settle(const uint16_t *list, size_t list_len, const uint16_t *items,
 
 /* From a list of statements to the text of its settled pass: the label table gets the addresses as from jw_settle, the object and value tables
  * what jw_write_text takes, the front of `out` the text, and the answer is its length, a size. Returns the refusal and the passes
- * (JW_REFUSAL, JW_PASSES). Stack: 14,928 bytes, measured likewise. */
+ * (JW_REFUSAL, JW_PASSES). Stack: 14,944 bytes, measured likewise. */
 uint32_t jw_hex(const uint16_t *list, size_t list_len, const uint16_t *items, size_t items_len, const uint16_t *nodes,
                 size_t nodes_len, uint16_t *labels, size_t labels_len, uint16_t *objects, size_t objects_len, uint16_t *values,
                 size_t values_len, uint8_t *out, size_t out_len, uint16_t *answer, size_t answer_len);
