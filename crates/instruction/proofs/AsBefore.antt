@@ -1,8 +1,8 @@
 -- 02 e: "Known 0 answers as clean did, unknown as dirty did, and equality with the Rust is claimed for those two." Under the page that a flag stood for, making and
 -- building are what they were with the flag (Was.antt), so what runs show of the Rust with its flag holds of these two pages.
 -- Assumes nothing.
-use mathlib.Core.Path.{_≡_, _∙_, refl, ap}
-use mathlib.Core.Bool.{Bool, true, false, _&&_, not, and-true}
+use mathlib.Core.Path.{_≡_, refl, ap}
+use mathlib.Core.Bool.{Bool, true, false, _&&_, and-true}
 use Prim.Native.Nat.{ℕ}
 use native.Mathlib.Omega.{arith}
 use lib.Dec.{eqb, ltb}
@@ -16,8 +16,6 @@ use Rattle.instruction.specs.declared.Operand.{Operand}
 use Rattle.instruction.specs.declared.Values.{Values}
 use Rattle.instruction.specs.declared.Record.{Record}
 use Rattle.instruction.specs.declared.Instruction.{Instruction}
-use Rattle.instruction.specs.declared.Chosen.{Chosen}
-use Rattle.instruction.specs.declared.Made.{Made}
 use Rattle.instruction.specs.Forms.{becomesDirect, extendedForm, formOf}
 use Rattle.instruction.specs.Choosing.{forcedWide, staysDirect, directlyOf, anewOf, addressOf, chooseOf}
 use Rattle.instruction.specs.Building.{noValues, operandRefusal, makeOf, buildOf, freshFrom, freshOf}

@@ -42,7 +42,7 @@ use Rattle.instruction.specs.Choosing.{settled, inherentOf, immediateOf,
 use Rattle.instruction.specs.Building.{earlyOf, acceptedOf, finishedOf, buildOf}
 use Rattle.instruction.proofs.Tests.{not-second, implied, or-left, or-right}
 use Rattle.instruction.proofs.Choice.{last-form}
-use Rattle.instruction.proofs.Rows.{direct-extended, extended-size, branch-size, operation-small, long-merged}
+use Rattle.instruction.proofs.Rows.{direct-extended, branch-size, operation-small, long-merged}
 
 -- ---- what fits
 -- a number of an immediate or an address: it has 16 bits; an immediate of one byte has 8, and a direct address lies on the page

@@ -137,11 +137,14 @@ fn row_on_page_11(form: u8, at: usize) -> Found
     }
 }
 
+// Page 0 is asked for first: most rows stand there.
 fn row_at(page: u8, form: u8, at: usize) -> Found
     ensures { λ r. ⌜ r ≡ rowAt at (tableOf page form) ⌝ }
 {
+    if page == 0x00 {
+        return row_on_page_0(form, at);
+    }
     match page {
-        0x00 => row_on_page_0(form, at),
         0x10 => row_on_page_10(form, at),
         0x11 => row_on_page_11(form, at),
         _ => Found::Nothing,
