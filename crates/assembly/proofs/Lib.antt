@@ -11,4 +11,5 @@ pub mod Lawful
 pub mod Written
 pub mod Made
 pub mod Cases
+pub mod Paged
 pub mod Only
