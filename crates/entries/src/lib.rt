@@ -229,7 +229,7 @@ fn entry_in(row: &[u16]) -> Record
     requires { ⌜ 21 ≤ length (now row) ⌝ }
     ensures { λ r. ⌜ r ≡ entryOf (now (row .entry)) ⌝ }
 {
-    let flags = flagged(row) & ((row[15] <= 256) & (row[16] <= 1));
+    let flags = flagged(row) & (is_page(row[15]) & (row[16] <= 1));
     let operand = told(row, flags);
     let page = Page::numbered(row[15]);
     let values = values_in(row);
