@@ -66,20 +66,20 @@ direct node = lda modeDirect 1 node
 abbrev transfer : List ℕ
 transfer = 1 ∷ none ∷ none ∷ 0 ∷ 0 ∷ tfr ∷ modeRegister ∷ 0 ∷ 0 ∷ 0 ∷ 0 ∷ 2 ∷ A ∷ DP ∷ replicate 6 0
 
-pub record Assembled : Type 0 where
+pub record Given : Type 0 where
   refusal : ℕ
   sizes : List ℕ
   bytes : List ℕ
 
-abbrev assembled : ℕ → List ℕ → List ℕ → Assembled
-assembled refusal sizes bytes = record { refusal = refusal; sizes = sizes; bytes = bytes }
+abbrev given : ℕ → List ℕ → List ℕ → Given
+given refusal sizes bytes = record { refusal = refusal; sizes = sizes; bytes = bytes }
 
-abbrev ask : List ℕ → Assembled
+abbrev ask : List ℕ → Given
 ask list =
     let src = source list [] nodes in
     let o = passedOf src [] in
     let e = endedOf src [] in
-    assembled (e .refusal) (take (rowsOf list) (o .sizes)) (gather (λ k. bytesIn src o k) (e .fine) 0)
+    given (e .refusal) (take (rowsOf list) (o .sizes)) (gather (λ k. bytesIn src o k) (e .fine) 0)
 
 -- `LDA $2005` under page 20, under 0 and under unknown
 -- `LDA <$05` and `LDA <$2005`, forced, under page 20
@@ -97,16 +97,16 @@ asked =
     ∷ (setdp 0x20 ++ plain 0 ++ transfer ++ plain 0 ++ setdp 0 ++ plain 1)
     ∷ []
 
-abbrev answered : List Assembled
+abbrev answered : List Given
 answered =
-    assembled 0 (0 ∷ 2 ∷ []) (0x96 ∷ 0x05 ∷ [])
-    ∷ assembled 0 (3 ∷ []) (0xB6 ∷ 0x20 ∷ 0x05 ∷ [])
-    ∷ assembled 0 (2 ∷ 3 ∷ []) (0x1F ∷ 0x8B ∷ 0xB6 ∷ 0x20 ∷ 0x05 ∷ [])
-    ∷ assembled 7 (0 ∷ 2 ∷ []) []
-    ∷ assembled 0 (0 ∷ 2 ∷ []) (0x96 ∷ 0x05 ∷ [])
-    ∷ assembled 0 (2 ∷ 3 ∷ []) (0x1F ∷ 0x8B ∷ 0xB6 ∷ 0x00 ∷ 0x05 ∷ [])
-    ∷ assembled 1 (0 ∷ 2 ∷ []) []
-    ∷ assembled 0 (0 ∷ 2 ∷ 2 ∷ 3 ∷ 0 ∷ 2 ∷ []) (0x96 ∷ 0x05 ∷ 0x1F ∷ 0x8B ∷ 0xB6 ∷ 0x20 ∷ 0x05 ∷ 0x96 ∷ 0x05 ∷ [])
+    given 0 (0 ∷ 2 ∷ []) (0x96 ∷ 0x05 ∷ [])
+    ∷ given 0 (3 ∷ []) (0xB6 ∷ 0x20 ∷ 0x05 ∷ [])
+    ∷ given 0 (2 ∷ 3 ∷ []) (0x1F ∷ 0x8B ∷ 0xB6 ∷ 0x20 ∷ 0x05 ∷ [])
+    ∷ given 7 (0 ∷ 2 ∷ []) []
+    ∷ given 0 (0 ∷ 2 ∷ []) (0x96 ∷ 0x05 ∷ [])
+    ∷ given 0 (2 ∷ 3 ∷ []) (0x1F ∷ 0x8B ∷ 0xB6 ∷ 0x00 ∷ 0x05 ∷ [])
+    ∷ given 1 (0 ∷ 2 ∷ []) []
+    ∷ given 0 (0 ∷ 2 ∷ 2 ∷ 3 ∷ 0 ∷ 2 ∷ []) (0x96 ∷ 0x05 ∷ 0x1F ∷ 0x8B ∷ 0xB6 ∷ 0x20 ∷ 0x05 ∷ 0x96 ∷ 0x05 ∷ [])
     ∷ []
 
 -- what the bytes mean: in page 20, in page 0, and the same under an unknown page where nothing is direct
