@@ -1,4 +1,6 @@
 // How an exported call answers: it returns its refusal, and what else it has to say goes into a lent slice of 16-bit cells.
+#![tactic(auto)]
+
 ghost use Rattle.std.specs.Prelude.{◌≡◌, ◌++◌, ◌+◌, ◌≤◌, length};
 ghost use Rattle.ground.specs.Stores.{put};
 ghost use Rattle.answers.specs.Said.{said, refusal_of, beside, cells_after};

@@ -1,4 +1,6 @@
 // From a list of statements to the objects of its settled pass, and to their hexadecimal text.
+#![tactic(auto)]
+
 mod output;
 mod tally;
 
@@ -20,7 +22,7 @@ use passes::settle_in;
 use records::write_text;
 
 // A refusal, 0 for none; the passes made; and how many rows of objects and of values were stored.
-#[derive(Drop)]
+#[derive(Clone, Copy)]
 pub struct Assembled {
     pub refusal: u8,
     pub passes: u8,
@@ -29,7 +31,7 @@ pub struct Assembled {
 }
 
 // A refusal, 0 for none; the passes made; and how long the text is.
-#[derive(Drop)]
+#[derive(Clone, Copy)]
 pub struct Hexed {
     pub refusal: u8,
     pub passes: u8,
@@ -38,7 +40,7 @@ pub struct Hexed {
 
 // What is known before anything is stored: the refusal, the passes made, how many statements stand before the refused one, and what these take: numbers
 // of objects and of values, and characters of text.
-#[derive(Drop)]
+#[derive(Clone, Copy)]
 struct Plan {
     refusal: u8,
     passes: u8,

@@ -14,7 +14,7 @@ use statements::objects::store_values;
 use values::pages::Page;
 
 // Where a statement stands: the running address, and the page.
-#[derive(Drop)]
+#[derive(Clone, Copy)]
 pub(crate) struct Place {
     pub at: u32,
     pub page: Page,
@@ -43,7 +43,7 @@ impl Place {
 }
 
 // How far the walk is: where the next statement stands, the numbers stored of objects and of values, and the measure of their text.
-#[derive(Drop)]
+#[derive(Clone, Copy)]
 pub(crate) struct Going {
     pub place: Place,
     pub objects: usize,
@@ -52,7 +52,7 @@ pub(crate) struct Going {
 }
 
 // What the objects take: numbers of objects and of values, and characters of text.
-#[derive(Drop)]
+#[derive(Clone, Copy)]
 pub(crate) struct Extent {
     pub objects: usize,
     pub values: usize,

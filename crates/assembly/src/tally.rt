@@ -11,7 +11,7 @@ const LONGEST_LINE: usize = 76;
 const LINE: usize = 12;
 
 // The address after the present record, how many bytes it has, and how many characters the closed ones have.
-#[derive(Drop)]
+#[derive(Clone, Copy)]
 pub(crate) struct Tally {
     pub next: usize,
     pub held: usize,

@@ -132,7 +132,7 @@ fn coded(page: u8, code: u8, size: u8, rest: Rest, from: Origin) -> Decoded
 }
 
 // What an instruction begins with: a code of a page, of so many bytes with its prefix; or the bytes end before it.
-#[derive(Drop)]
+#[derive(Clone, Copy)]
 enum Head {
     Code { page: u8, code: u8, size: u8 },
     Cut,

@@ -1,4 +1,6 @@
 // The decoder: the instruction at the front of lent bytes, and the run of instructions in all of them.
+#![tactic(auto)]
+
 mod front;
 mod operands;
 
@@ -14,7 +16,7 @@ use values::pages::Page;
 
 // What an instruction's operand is: its addressing kind, and only what that kind uses. Registers and steps go by number. `None` stands
 // beside a refusal, and nowhere else.
-#[derive(Drop)]
+#[derive(Clone, Copy)]
 pub enum Kind {
     None,
     Inherent,
@@ -64,14 +66,14 @@ pub enum Kind {
 }
 
 // What an instruction means. Aliases are one operation.
-#[derive(Drop)]
+#[derive(Clone, Copy)]
 pub struct Meaning {
     pub operation: u8,
     pub kind: Kind,
 }
 
 // The instruction at the front of some bytes and how many of them are its own; or a refusal and zeros.
-#[derive(Drop)]
+#[derive(Clone, Copy)]
 pub struct Decoded {
     pub refusal: u8,
     pub length: u8,
@@ -79,14 +81,14 @@ pub struct Decoded {
 }
 
 // How many instructions a run has; or a refusal and 0.
-#[derive(Drop)]
+#[derive(Clone, Copy)]
 pub struct Counted {
     pub refusal: u8,
     pub count: usize,
 }
 
 // A kind by its number, and its values one by one: 0 and false where the kind has none.
-#[derive(Drop)]
+#[derive(Clone, Copy)]
 pub struct Parts {
     pub kind: u8,
     pub indirect: bool,
@@ -98,7 +100,7 @@ pub struct Parts {
 }
 
 // What the reading of bytes hangs on beside them: the address at which they stand, and the page of direct addresses.
-#[derive(Drop)]
+#[derive(Clone, Copy)]
 pub struct Origin {
     pub address: u16,
     pub page: Page,

@@ -25,7 +25,7 @@ const TFR: u8 = 137;
 const PSHU: u8 = 140;
 
 // The bytes after a code: how many there are, and the first three, 0 where there is none.
-#[derive(Drop)]
+#[derive(Clone, Copy)]
 pub struct Rest {
     pub left: usize,
     pub first: u8,
@@ -34,7 +34,7 @@ pub struct Rest {
 }
 
 // An operand, and how many bytes are its own; or a refusal.
-#[derive(Drop)]
+#[derive(Clone, Copy)]
 pub struct Reading {
     pub refusal: u8,
     pub size: u8,

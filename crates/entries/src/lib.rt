@@ -1,5 +1,7 @@
 // Operand records and kept instructions as rows of numbers, as lent tables hold them (docs/ROWS.md). Anything may be wrong in a row: it is read whole,
 // and what is unknown in it stays unknown.
+#![tactic(auto)]
+
 ghost use Rattle.std.specs.Prelude.{◌≡◌, ◌≤◌, ltb, length};
 ghost use Rattle.ground.specs.Choice.{pick};
 ghost use Rattle.entries.specs.Entries.{nowhere, byte_in, is_flag, flag_in, is_page_in, page_in, flagged_in, cells_of, registers_in, told_in, operand_of, kept_flagged, kept_of, values_in, entry_of};

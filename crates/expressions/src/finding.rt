@@ -36,14 +36,14 @@ pub const BY_ADDRESS: u16 = 1;
 pub const BY_EXPRESSION: u16 = 2;
 
 // A refusal, 0 for none; the number; and whether a location or an address label was reached.
-#[derive(Drop)]
+#[derive(Clone, Copy)]
 pub struct Found {
     pub refusal: u8,
     pub number: u16,
     pub wide: bool,
 }
 
-#[derive(Drop)]
+#[derive(Clone, Copy)]
 struct Row {
     first: u16,
     second: u16,

@@ -1,4 +1,6 @@
 // Expressions: a flat table of nodes and a table of labels, both lent, and the values that their numbers stand for.
+#![tactic(auto)]
+
 mod finding;
 pub mod moving;
 
@@ -16,14 +18,14 @@ const MOST_NODES: usize = 1024;
 const LEAST_BYTE: u16 = 65408;
 
 // A refusal, 0 for none, and the value. Beside a refusal it is zeros.
-#[derive(Drop)]
+#[derive(Clone, Copy)]
 pub struct Answer {
     pub refusal: u8,
     pub value: Value,
 }
 
 // The two evaluations that an operand record holds.
-#[derive(Drop)]
+#[derive(Clone, Copy)]
 pub struct Evaluated {
     pub refusal: u8,
     pub unsigned: Value,

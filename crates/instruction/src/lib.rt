@@ -1,4 +1,6 @@
 // One instruction: its operand record, the form that is chosen for it, the kept instruction and its build.
+#![tactic(auto)]
+
 mod bytes;
 pub mod choosing;
 mod forms;
@@ -24,7 +26,7 @@ use values::Value;
 use values::pages::Page;
 
 // What a build does not change: the operand as the parser saw it. Any number in it may be wrong.
-#[derive(Drop)]
+#[derive(Clone, Copy)]
 pub struct Operand {
     pub operation: u8,
     pub mode: u8,
@@ -37,7 +39,7 @@ pub struct Operand {
 }
 
 // The value of an operand, if it has one: its unsigned and its signed evaluation.
-#[derive(Drop)]
+#[derive(Clone, Copy)]
 pub struct Values {
     pub given: bool,
     pub unsigned: Value,
@@ -45,7 +47,7 @@ pub struct Values {
 }
 
 // The operand record: with the page and the values of one build.
-#[derive(Drop)]
+#[derive(Clone, Copy)]
 pub struct Record {
     pub operand: Operand,
     pub page: Page,
@@ -54,7 +56,7 @@ pub struct Record {
 
 // A kept instruction: with its form, its trial mark and whether its short branch was made long. Of one that was made, the last is all that is remembered: the form
 // is what the operand asks for with the values and the page of the last accepted build, and the mark says that Direct was chosen for it (02 n).
-#[derive(Drop)]
+#[derive(Clone, Copy)]
 pub struct Instruction {
     pub operand: Operand,
     pub form: u8,
@@ -62,13 +64,13 @@ pub struct Instruction {
     pub widened: bool,
 }
 
-#[derive(Drop)]
+#[derive(Clone, Copy)]
 pub struct Made {
     pub refusal: u8,
     pub instruction: Instruction,
 }
 
-#[derive(Drop)]
+#[derive(Clone, Copy)]
 pub struct Built {
     pub refusal: u8,
     pub instruction: Instruction,
@@ -78,7 +80,7 @@ pub struct Built {
 }
 
 // A build but for the operand, which it never changes. So that is not carried along.
-#[derive(Drop)]
+#[derive(Clone, Copy)]
 struct Outcome {
     refusal: u8,
     form: u8,
@@ -90,7 +92,7 @@ struct Outcome {
 }
 
 // What a build into a lent buffer answers beside the bytes stored.
-#[derive(Drop)]
+#[derive(Clone, Copy)]
 pub struct Placed {
     pub refusal: u8,
     pub instruction: Instruction,
@@ -99,7 +101,7 @@ pub struct Placed {
 }
 
 // What stands after the code, before it is bytes.
-#[derive(Drop)]
+#[derive(Clone, Copy)]
 pub enum Argument {
     Nothing,
     Number(u16),
@@ -110,7 +112,7 @@ pub enum Argument {
 }
 
 // What a build settles on: the operation whose bytes it emits, the form, the marks and the argument; or a refusal.
-#[derive(Drop)]
+#[derive(Clone, Copy)]
 pub struct Chosen {
     pub refusal: u8,
     pub operation: u8,
@@ -121,7 +123,7 @@ pub struct Chosen {
 }
 
 // Five bytes, and how many there are.
-#[derive(Drop)]
+#[derive(Clone, Copy)]
 pub struct Laid {
     pub bytes: [u8; 5],
     pub length: u8,

@@ -1,4 +1,6 @@
 // Laying: a list of instructions, fresh, end to end from an address into a lent buffer.
+#![tactic(auto)]
+
 ghost use Rattle.std.specs.Prelude.{◌≡◌, ◌≤◌, length};
 ghost use Rattle.ground.specs.Stores.{put};
 ghost use Rattle.laying.specs.Entries.{entry_at, entries_of};
@@ -19,7 +21,7 @@ const MOST_ROWS: usize = 1024;
 const END: usize = 65536;
 
 // How many bytes were laid; or a refusal and 0.
-#[derive(Drop)]
+#[derive(Clone, Copy)]
 pub struct Laid {
     pub refusal: u8,
     pub length: usize,

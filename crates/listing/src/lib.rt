@@ -1,4 +1,6 @@
 // What the read-back program prints for a text: a line for each instruction, and the last line, `end` or `refused` with a number.
+#![tactic(auto)]
+
 mod lines;
 
 ghost use Rattle.std.specs.Prelude.{◌≡◌, ◌+◌, ◌*◌, ◌^◌, ◌<◌, ◌≤◌, length};
@@ -15,7 +17,7 @@ use reader::runs::{read_run, run_at};
 use values::pages::Page;
 
 // The answer: 9 and 0 where the listing has no room, or 0 and how long it is. A refusal of the text stands in the listing.
-#[derive(Drop)]
+#[derive(Clone, Copy)]
 pub struct Listed {
     pub refusal: u8,
     pub length: usize,
@@ -28,7 +30,7 @@ pub const ROOM: usize = 262158;
 const LONGEST: usize = 65536;
 
 // How far a listing is written: its end so far, how many instructions it has, and the refusal that ends it, 0 for none.
-#[derive(Drop)]
+#[derive(Clone, Copy)]
 struct Progress {
     at: usize,
     count: usize,

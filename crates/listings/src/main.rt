@@ -1,4 +1,6 @@
 // Prints the listings of the texts in data/, one file after the other: each refusal, and the forms that a text may have.
+#![tactic(auto)]
+
 use libc::STDOUT_FILENO;
 
 // One byte more than a text may have, so that a longer one is seen to be longer.

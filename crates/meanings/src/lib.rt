@@ -1,4 +1,5 @@
 // What an accepted instruction means: from its record, its address, and the form and size that its build chose. Never from its bytes.
+#![tactic(auto)]
 
 ghost use Rattle.std.specs.Prelude.{◌≡◌};
 ghost use Rattle.meanings.specs.Means.{offset_in, offset_kind, index_kind, list_kind, kind_of, operation_of, meaning_of};

@@ -16,7 +16,7 @@ const ALL_LABELS: usize = 512;
 const BY_EXPRESSION: u16 = 2;
 
 // What a label's row holds that the passes do not find.
-#[derive(Drop)]
+#[derive(Clone, Copy)]
 struct Lent {
     state: u16,
     node: u16,

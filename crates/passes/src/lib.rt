@@ -1,4 +1,6 @@
 // Passes over a lent list of statements, until one changes no label address and no size.
+#![tactic(auto)]
+
 pub mod labels;
 mod walk;
 
@@ -20,7 +22,7 @@ const MOST_PASSES: u8 = 64;
 
 // How the passes ended: a refusal, 0 for none; the passes made; the address after the last statement, 0 beside a refusal; and how many statements
 // stand before the refused one.
-#[derive(Drop)]
+#[derive(Clone, Copy)]
 pub struct Ended {
     pub refusal: u8,
     pub passes: u8,
@@ -29,7 +31,7 @@ pub struct Ended {
 }
 
 // A refusal, 0 for none, the passes made, and the address after the last statement.
-#[derive(Drop)]
+#[derive(Clone, Copy)]
 pub struct Settled {
     pub refusal: u8,
     pub passes: u8,

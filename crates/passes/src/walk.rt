@@ -17,7 +17,7 @@ use values::pages::Page;
 
 // The running address, 0 to 65536; the segment starts beside 0; the page; the first refusal, 0 for none; how many statements
 // stand before the refused one; and whether an address or a size changed.
-#[derive(Drop)]
+#[derive(Clone, Copy)]
 pub(crate) struct State {
     pub at: u32,
     pub count: usize,
@@ -28,7 +28,7 @@ pub(crate) struct State {
 }
 
 // A statement whose label is marked: the walk then, and what the statement does.
-#[derive(Drop)]
+#[derive(Clone, Copy)]
 struct Marked {
     state: State,
     effect: Effect,

@@ -1,5 +1,7 @@
 // Postbytes, written and read: the byte after a code that says what the operand is. Indexed operands, push lists, and the pairs of EXG and TFR.
 // Registers: 0 A, 1 B, 2 D, 3 X, 4 Y, 5 U, 6 S, 7 PC, 8 CC, 9 DP. Steps: 1 `,R+`, 2 `,R++`, 3 `,-R`, 4 `,--R`.
+#![tactic(auto)]
+
 use values::Value;
 
 pub mod encoding;
@@ -8,7 +10,7 @@ pub mod numbers;
 pub mod shapes;
 
 // An indexed operand to be written. Its numbers and values are a caller's and may be wrong.
-#[derive(Drop)]
+#[derive(Clone, Copy)]
 pub enum Index {
     // A constant offset from X, Y, U or S.
     Offset {
@@ -38,7 +40,7 @@ pub enum Index {
 }
 
 // The postbyte and the bytes after it, zeros past the length; or a refusal and zeros.
-#[derive(Drop)]
+#[derive(Clone, Copy)]
 pub struct Encoded {
     pub refusal: u8,
     pub bytes: [u8; 3],
@@ -46,7 +48,7 @@ pub struct Encoded {
 }
 
 // What a postbyte alone says: a line of the sheet's table, and what stands in the postbyte itself.
-#[derive(Drop)]
+#[derive(Clone, Copy)]
 pub enum Shape {
     NoOffset {
         register: u8,
@@ -86,7 +88,7 @@ pub enum Shape {
 }
 
 // What an indexed operand means: the sheet's indexed addressing, with an offset of 16 bits, sign-extended.
-#[derive(Drop)]
+#[derive(Clone, Copy)]
 pub enum Addressing {
     Offset {
         register: u8,
@@ -114,14 +116,14 @@ pub enum Addressing {
 }
 
 // The byte of a list of registers; or a refusal and zero.
-#[derive(Drop)]
+#[derive(Clone, Copy)]
 pub struct Listed {
     pub refusal: u8,
     pub byte: u8,
 }
 
 // The two registers of EXG and TFR.
-#[derive(Drop)]
+#[derive(Clone, Copy)]
 pub enum Pair {
     Is { source: u8, destination: u8 },
     Undefined,

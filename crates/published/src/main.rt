@@ -1,6 +1,8 @@
 // Compares the library with published tables: the sheet's opcode map, postbyte table and push boxes, transcribed by hand, and a sample of capstone's
 // reading. Each file of data/ has lines of one length, so that a line is found by counting (harness/tables.py says how they were made). Beside each stands a
 // damaged one, whose lines are right and, once for each digit of an answer, wrong in that digit: a comparison that does not look would count too few.
+#![tactic(auto)]
+
 mod capstone;
 mod codes;
 mod indexed;
@@ -13,7 +15,7 @@ ghost use Rattle.std.specs.Prelude.{◌<◌, ◌≤◌};
 
 use libc::STDOUT_FILENO;
 
-#[derive(Drop)]
+#[derive(Clone, Copy)]
 enum Table {
     Opcodes,
     Codes,
@@ -25,7 +27,7 @@ enum Table {
 }
 
 // How many lines were compared, and how many of them differ.
-#[derive(Drop)]
+#[derive(Clone, Copy)]
 struct Tally {
     compared: u64,
     differing: u64,

@@ -1,4 +1,6 @@
 // Prints what a text on standard input says, read back: its listing. The listing is the library's; here it is only read and written.
+#![tactic(auto)]
+
 ghost use Rattle.io.specs.Counts.{IsPrefixLen};
 
 use libc::{STDIN_FILENO, STDOUT_FILENO};
@@ -7,7 +9,7 @@ use libc::{STDIN_FILENO, STDOUT_FILENO};
 const SPACE: usize = 65537;
 
 // How much was read. Where a read failed there is no text.
-#[derive(Drop)]
+#[derive(Clone, Copy)]
 struct Input {
     failed: bool,
     length: usize,

@@ -5,7 +5,7 @@ ghost use Rattle.reader.specs.Held.{reader_at};
 
 use crate::runs::{Run, read_run};
 
-#[derive(Drop)]
+#[derive(Clone, Copy)]
 pub struct Reader<'a> {
     pub text: &'a [u8],
     pub at: usize,

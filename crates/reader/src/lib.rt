@@ -1,4 +1,6 @@
 // A reader of Intel's hexadecimal text.
+#![tactic(auto)]
+
 pub mod held;
 pub mod runs;
 
@@ -14,7 +16,7 @@ use ground::refusals::{BEYOND, BROKEN_TEXT, NO_ROOM};
 use ground::tables::byte;
 
 // The answer for a text: a refusal, or how many bytes and how many runs were handed out.
-#[derive(Drop)]
+#[derive(Clone, Copy)]
 pub struct Read {
     pub refusal: u8,
     pub bytes: usize,
@@ -54,7 +56,7 @@ fn pair_at(text: &[u8], at: usize) -> usize
 }
 
 // Pairs of digits: the place behind them, and the sum of their bytes modulo 256.
-#[derive(Drop)]
+#[derive(Clone, Copy)]
 struct Pairs {
     end: usize,
     sum: usize,
@@ -97,7 +99,7 @@ fn after_end(text: &[u8], at: usize) -> usize
 }
 
 // A line: a data record with the places of its first digit and of the next line, the end record, or neither.
-#[derive(Drop)]
+#[derive(Clone, Copy)]
 enum Line {
     Data {
         address: u16,
@@ -170,7 +172,7 @@ fn known_line_at(text: &[u8], at: usize) -> Line
 }
 
 // What records come to: their bytes, their runs, the address after the last byte, and whether a byte lies beyond 65535.
-#[derive(Drop)]
+#[derive(Clone, Copy)]
 struct Tally {
     bytes: usize,
     runs: usize,

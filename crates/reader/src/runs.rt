@@ -8,7 +8,7 @@ use crate::{Line, line_at, measure, store_bytes};
 use ground::refusals::{BEYOND, BROKEN_TEXT, NO_ROOM};
 
 // A run of a text: a refusal, or its address, its length and the place after its lines. Where the end record stands there is none, of length 0.
-#[derive(Drop)]
+#[derive(Clone, Copy)]
 pub struct Run {
     pub refusal: u8,
     pub address: u16,
@@ -28,7 +28,7 @@ fn refuse_run(refusal: u8) -> Run
 }
 
 // A run as far as it goes: the address after its last byte, and the place after its lines.
-#[derive(Drop)]
+#[derive(Clone, Copy)]
 struct Stretch {
     end: usize,
     next: usize,

@@ -1,4 +1,6 @@
 // Objects in lent tables, written as Intel's hexadecimal text.
+#![tactic(auto)]
+
 pub mod hex;
 mod lines;
 mod objects;
@@ -12,7 +14,7 @@ use objects::{is_faulty, is_too_far};
 use walk::walk;
 
 // The writer's answer: a refusal's number or 0, and how long the text is.
-#[derive(Drop)]
+#[derive(Clone, Copy)]
 pub struct Written {
     pub refusal: u8,
     pub length: usize,

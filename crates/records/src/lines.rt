@@ -9,7 +9,7 @@ use crate::hex::store_digits;
 use ground::buffers::store;
 
 // Where the text goes on, and the sum of the line's bytes so far, modulo 256.
-#[derive(Drop)]
+#[derive(Clone, Copy)]
 pub(crate) struct Pen {
     at: usize,
     sum: u8,

@@ -30,7 +30,7 @@ fn bad_values(values: &[u16]) -> bool
 }
 
 // A row of the table of objects; the count is that of the values it has, none without data.
-#[derive(Drop)]
+#[derive(Clone, Copy)]
 pub(crate) struct Row {
     pub kind: u16,
     pub address: u16,

@@ -10,7 +10,7 @@ use super::objects::row_at;
 
 // The present record: where it starts and how many bytes it has so far; and where the text goes on. Its bytes stand in a lent array of 32:
 // in the record itself they would be copied for each byte.
-#[derive(Drop)]
+#[derive(Clone, Copy)]
 pub(crate) struct Open {
     start: usize,
     n: usize,

@@ -1,6 +1,8 @@
 // Replays the fixed list of data/: what the Rust was seen to answer, and where it differs by a listed difference what document 01 says
 // (harness/replay says how the list was made). Each file has a line for a piece of a case. Beside each stands a damaged one: a few cases that are right
 // and, once for each digit of their answers, wrong in that digit. A comparison that does not look would count too few.
+#![tactic(auto)]
+
 mod builds;
 mod evaluations;
 mod labels;
@@ -15,7 +17,7 @@ ghost use Rattle.std.specs.Prelude.{◌≡◌, length};
 use libc::STDOUT_FILENO;
 use state::{State, Tally};
 
-#[derive(Drop)]
+#[derive(Clone, Copy)]
 enum File {
     Builds,
     Texts,

@@ -3,7 +3,7 @@ use instruction::{Instruction, Operand, Values};
 use values::Value;
 
 // How many answers were compared, how many of them by a listed difference, and how many differ.
-#[derive(Drop)]
+#[derive(Clone, Copy)]
 pub(crate) struct Tally {
     pub(crate) compared: u64,
     pub(crate) listed: u64,
@@ -12,7 +12,7 @@ pub(crate) struct Tally {
 
 // The tally and the line's number; the instruction that is kept; the last pair of values; how much of the two tables is in use; and the text that was
 // written.
-#[derive(Drop)]
+#[derive(Clone, Copy)]
 pub(crate) struct State {
     pub(crate) tally: Tally,
     pub(crate) line: u64,

@@ -26,7 +26,7 @@ const CELLS: usize = 21;
 const END: usize = 65536;
 
 // How far a list and a run agree: whether nothing is left on either side, and how many leading instructions do.
-#[derive(Drop)]
+#[derive(Clone, Copy)]
 struct Agreement {
     all: bool,
     place: usize,

@@ -1,4 +1,6 @@
 // The round trip: a list laid and written as a text, and whether a text of anyone's making reads back to a list.
+#![tactic(auto)]
+
 mod alike;
 mod comparing;
 mod writing;
@@ -13,7 +15,7 @@ use values::pages::Page;
 use writing::write_laid;
 
 // How a text compares with a list: a refusal; or whether all is equal, and how many leading instructions agree.
-#[derive(Drop)]
+#[derive(Clone, Copy)]
 pub struct Compared {
     pub refusal: u8,
     pub equal: bool,

@@ -1,5 +1,7 @@
 // The sheet's opcode rows, looked up by operation and form (the encoder) or by page and code (the decoder), in the same tables.
 // Each lookup reads one row, at its place in the one table that can have it.
+#![tactic(auto)]
+
 pub mod forms;
 mod places;
 pub mod sizes;
@@ -16,7 +18,7 @@ use sizes::is_formed;
 use tables::*;
 
 // What a table has at a place.
-#[derive(Drop)]
+#[derive(Clone, Copy)]
 enum Found {
     Row(u16),
     Nothing,
@@ -206,7 +208,7 @@ fn page_of(operation: u8) -> u8
 
 // The code of an operation in a form. Unknown is 01's refusal 1 (the operation or the form is no number that there is), Missing its 2 (the
 // operation has no row in that form).
-#[derive(Drop)]
+#[derive(Clone, Copy)]
 pub enum Coded {
     Code { page: u8, code: u8 },
     Unknown,
@@ -243,7 +245,7 @@ pub fn has_form(operation: u8, form: u8) -> bool
 }
 
 // The operation and the form of a code. Undefined is 01's refusal 14.
-#[derive(Drop)]
+#[derive(Clone, Copy)]
 pub enum Named {
     Is { operation: u8, form: u8 },
     Undefined,

@@ -1,4 +1,6 @@
 // Segments: the starts other than 0, sorted, in the first `count` places of a lent table. 0 is always a start and is never stored.
+#![tactic(auto)]
+
 ghost use Rattle.std.specs.Prelude.{◌≡◌, ◌<◌, ◌-◌, min, max, length, take};
 ghost use Rattle.segments.specs.Segments.{holds_of, inserted, refusal_of, added_to, table_after, segment_in, segment_of};
 ghost use Rattle.segments.specs.Steps.{narrowed_by};
@@ -9,13 +11,13 @@ use ground::refusals::{NO_ROOM, OVER_LIMIT, SEGMENT_REPEATED};
 const MOST_STARTS: usize = 63;
 
 // A refusal, 0 for none, and the count after it. Beside a refusal the count is 0, and the one that the caller has still holds.
-#[derive(Drop)]
+#[derive(Clone, Copy)]
 pub struct Added {
     pub refusal: u8,
     pub count: usize,
 }
 
-#[derive(Drop)]
+#[derive(Clone, Copy)]
 pub struct Segment {
     pub left: u16,
     pub right: u16,

@@ -1,4 +1,6 @@
 // Statements: a row of a lent list, what it does at an address, and the values that it puts into its object.
+#![tactic(auto)]
+
 mod asking;
 pub mod effects;
 pub mod listing;
@@ -13,7 +15,7 @@ use instruction::{Operand, Values};
 use values::pages::Page;
 
 // What a row is: `first` and `count` are places among the lent items, a `node` may be none, SETDP's `number` is itself.
-#[derive(Drop)]
+#[derive(Clone, Copy)]
 pub enum Statement {
     Label,
     Instruction { node: u16 },
@@ -27,21 +29,21 @@ pub enum Statement {
 }
 
 // The operand of an instruction's row, of no known operation where a flag is neither 0 nor 1; and the number in the row, whose smallest size counts even then.
-#[derive(Drop)]
+#[derive(Clone, Copy)]
 pub struct Entry {
     pub operation: u8,
     pub operand: Operand,
 }
 
 // The values of an instruction, if it has any; or a refusal.
-#[derive(Drop)]
+#[derive(Clone, Copy)]
 pub(crate) struct Asked {
     pub refusal: u8,
     pub values: Values,
 }
 
 // What an item stands for: a value of FCB, a value of FDB, or a character of FCC.
-#[derive(Drop)]
+#[derive(Clone, Copy)]
 pub(crate) enum Datum {
     Byte,
     Word,
@@ -49,7 +51,7 @@ pub(crate) enum Datum {
 }
 
 // What a statement does to the page: it keeps it, leaves it unknown, or sets it to a high byte.
-#[derive(Drop)]
+#[derive(Clone, Copy)]
 pub enum Turn {
     Keeps,
     Forgets,
@@ -70,7 +72,7 @@ impl Turn {
 }
 
 // What a statement does: its refusal or 0, what it counts, of an ORG that it moves and where to, and what it does to the page.
-#[derive(Drop)]
+#[derive(Clone, Copy)]
 pub struct Effect {
     pub refusal: u8,
     pub size: u32,

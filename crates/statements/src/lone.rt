@@ -11,7 +11,7 @@ use values::pages::Page;
 
 // A refusal or 0, how many values were stored, what the statement counts, of an ORG that it moves and where to, and what it does to the page. Beside a
 // refusal it is zeros, and keeps the page.
-#[derive(Drop)]
+#[derive(Clone, Copy)]
 pub struct Lone {
     pub refusal: u8,
     pub count: u16,

@@ -3,7 +3,7 @@ ghost use Rattle.std.specs.Prelude.{◌≡◌};
 ghost use Rattle.values.specs.Pages.{reaches, is_unknown, is_zero, is_page, page_numbered};
 
 // Nothing is known, or the high byte of the addresses that a direct code reaches.
-#[derive(Drop)]
+#[derive(Clone, Copy)]
 pub enum Page {
     Unknown,
     Known(u8),

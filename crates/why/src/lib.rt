@@ -1,4 +1,6 @@
 // Why an instruction is as long as it is, or which field of its record refused it (02 a).
+#![tactic(auto)]
+
 mod fields;
 mod reasons;
 
@@ -12,7 +14,7 @@ use instruction::{Built, assemble};
 use reasons::reason_for;
 
 // The field of a record that a refusal is about, in the order of its row (docs/ROWS.md).
-#[derive(Drop)]
+#[derive(Clone, Copy)]
 pub enum Field {
     Operation,
     Mode,
@@ -26,7 +28,7 @@ pub enum Field {
 }
 
 // Why a fresh instruction has its length, or what refused it.
-#[derive(Drop)]
+#[derive(Clone, Copy)]
 pub enum Reason {
     // Nothing was to be decided: neither an address, a branch, a PCRelative operand nor a constant offset.
     Plain,
@@ -57,14 +59,14 @@ pub enum Reason {
 }
 
 // What a fresh build answers, and why.
-#[derive(Drop)]
+#[derive(Clone, Copy)]
 pub struct Explained {
     pub built: Built,
     pub reason: Reason,
 }
 
 // A reason by its number, and its values one by one: 0 and false where the reason has none.
-#[derive(Drop)]
+#[derive(Clone, Copy)]
 pub struct Parts {
     pub kind: u8,
     pub forced: bool,

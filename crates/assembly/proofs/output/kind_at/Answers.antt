@@ -1,0 +1,7 @@
+-- `assembly::output::kind_at` meets its contract.
+-- Assumes nothing.
+use borrow.Author.Rules.{rules}
+use Rattle.assembly.proofs.output.kind_at.Goals as goal
+
+pub returns : goal.returns
+returns c = cc

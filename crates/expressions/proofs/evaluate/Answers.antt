@@ -1,0 +1,9 @@
+-- `expressions::evaluate` meets its contract: the node is asked, and its number stored.
+-- Assumes nothing.
+use borrow.Author.Rules.{rules}
+use Rattle.expressions.specs.Answers.{evaluation}
+use Rattle.expressions.proofs.evaluate.Goals as goal
+
+pub returns : goal.returns
+unfolding evaluation
+returns c = cc

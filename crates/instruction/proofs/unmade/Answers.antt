@@ -1,0 +1,7 @@
+-- `instruction::unmade` meets its contract.
+-- Assumes nothing.
+use borrow.Author.Rules.{rules}
+use Rattle.instruction.proofs.unmade.Goals as goal
+
+pub returns : goal.returns
+returns c = rw c.no_instruction-instruction.ensures

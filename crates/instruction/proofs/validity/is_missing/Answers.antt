@@ -1,0 +1,9 @@
+-- `instruction::validity::is_missing` meets its contract.
+-- Assumes nothing.
+use borrow.Author.Rules.{rules}
+use Rattle.instruction.specs.Quick.{misses}
+use Rattle.instruction.proofs.validity.is_missing.Goals as goal
+
+pub returns : goal.returns
+unfolding misses
+returns c = rw c.needs_value.ensures

@@ -1,0 +1,9 @@
+-- `joltwagon::decoding::hand_decoded` meets its contract.
+-- Assumes nothing.
+use borrow.Author.Rules.{rules}
+use Rattle.answers.proofs.Laws.{said_as}
+use Rattle.joltwagon.proofs.Spoken.{decoded_said_lem}
+use Rattle.joltwagon.proofs.decoding.hand_decoded.Goals as goal
+
+pub returns : goal.returns
+returns c = said_as _ (decoded_said_lem _ c.in_parts-parts.ensures c.flag.ensures) c.hand.ensures

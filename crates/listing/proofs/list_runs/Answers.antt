@@ -1,0 +1,96 @@
+-- `listing::list_runs` meets its contract. What holds at each turn is `Walking`.
+-- Assumes nothing.
+use mathlib.Core.Path.{◌≡◌, refl, sym, ap, ◌∙◌}
+use Prim.Native.Nat.{◌≤◌}
+use lib.ListN.{length, drop}
+use Rattle.records.specs.Text.{Rec}
+use Rattle.reader.specs.Answers.{runs_in}
+use Rattle.listing.proofs.Texts.{no_run, next_run}
+use Rattle.listing.proofs.Walking.{taken, Walking, walking_first, walking_asks, walking_end, walking_on, walking_refused}
+use native.Mathlib.Omega.{arith}
+use Rattle.listing.proofs.list_runs.Goals as goal
+
+pub loop-run-init : goal.loop-run-init
+loop-run-init c = let a = c.args in (walking_first a.out.now a.text.now c.requires.0, c.requires.1, refl, refl)
+
+pub shape_of-bytes-then-n-eq0 : goal.shape_of-bytes-then-n-eq0
+shape_of-bytes-then-n-eq0 c = c.read_run-run.auto.1.1.0 ∙ c.loop-run.invariant.3
+
+pub shape_of-out-then-n-eq0 : goal.shape_of-out-then-n-eq0
+shape_of-out-then-n-eq0 c = c.loop-run.invariant.2
+
+pub returns-then-n-eq0 : goal.returns-then-n-eq0
+returns-then-n-eq0 c =
+    let a = c.args in
+    let l = c.loop-run in
+    let text = a.text.now in
+    let run = c.read_run-run in
+    let fit = (taken text c.requires.0).1 in
+    walking_end l.invariant.0 (no_run text fit l.place l.bytes run.result _ run.ensures l.invariant.1 l.invariant.0.right c.if-n-eq0.true)
+
+pub slice_bounds-list_run-end : goal.slice_bounds-list_run-end
+slice_bounds-list_run-end c =
+    let a = c.args in
+    let l = c.loop-run in
+    let text = a.text.now in
+    let run = c.read_run-run in
+    let fit = (taken text c.requires.0).1 in
+    let x = next_run text fit l.place l.bytes run.result _ run.ensures l.invariant.1 l.invariant.0.right c.if-n-eq0.false in
+    omega (arith, x.near, run.auto.1.1.0, l.invariant.1)
+
+pub slice_bounds-list_run-end-in-loop-run : goal.slice_bounds-list_run-end-in-loop-run
+slice_bounds-list_run-end-in-loop-run c =
+    let a = c.args in
+    let l = c.loop-run in
+    let text = a.text.now in
+    let run = c.read_run-run in
+    let fit = (taken text c.requires.0).1 in
+    let x = next_run text fit l.place l.bytes run.result _ run.ensures l.invariant.1 l.invariant.0.right c.if-n-eq0.false in
+    x.long ∙ sym (ap length x.bytes)
+
+pub list_run-done-requires : goal.list_run-done-requires
+list_run-done-requires c =
+    let a = c.args in
+    let l = c.loop-run in
+    let text = a.text.now in
+    let run = c.read_run-run in
+    let fit = (taken text c.requires.0).1 in
+    let x = next_run text fit l.place l.bytes run.result _ run.ensures l.invariant.1 l.invariant.0.right c.if-n-eq0.false in
+    let asks = walking_asks l.invariant.0 x in
+    (omega (arith, asks.0), asks.1, asks.2)
+
+pub shape_of-bytes-then-done-ne0 : goal.shape_of-bytes-then-done-ne0
+shape_of-bytes-then-done-ne0 c = c.read_run-run.auto.1.1.0 ∙ c.loop-run.invariant.3
+
+pub shape_of-out-then-done-ne0 : goal.shape_of-out-then-done-ne0
+shape_of-out-then-done-ne0 c = c.list_run-done.auto.1.1.0 ∙ c.loop-run.invariant.2
+
+pub returns-then-done-ne0 : goal.returns-then-done-ne0
+returns-then-done-ne0 c =
+    let a = c.args in
+    let l = c.loop-run in
+    let text = a.text.now in
+    let run = c.read_run-run in
+    let fit = (taken text c.requires.0).1 in
+    let x = next_run text fit l.place l.bytes run.result _ run.ensures l.invariant.1 l.invariant.0.right c.if-n-eq0.false in
+    walking_refused l.invariant.0 x c.list_run-done.ensures c.if-done-ne0.true
+
+pub loop-run-smaller : goal.loop-run-smaller
+loop-run-smaller c =
+    let a = c.args in
+    let l = c.loop-run in
+    let text = a.text.now in
+    let run = c.read_run-run in
+    let fit = (taken text c.requires.0).1 in
+    let x = next_run text fit l.place l.bytes run.result _ run.ensures l.invariant.1 l.invariant.0.right c.if-n-eq0.false in
+    omega (arith, ap (length {A = Rec}) x.runs)
+
+pub loop-run-preserved : goal.loop-run-preserved
+loop-run-preserved c =
+    let a = c.args in
+    let l = c.loop-run in
+    let text = a.text.now in
+    let run = c.read_run-run in
+    let fit = (taken text c.requires.0).1 in
+    let x = next_run text fit l.place l.bytes run.result _ run.ensures l.invariant.1 l.invariant.0.right c.if-n-eq0.false in
+    (walking_on l.invariant.0 x c.list_run-done.ensures c.if-done-ne0.false, omega (arith, run.auto.1.1.0, l.invariant.1), c.list_run-done.auto.1.1.0 ∙ l.invariant.2, run.auto.1.1.0 ∙ l.invariant.3)

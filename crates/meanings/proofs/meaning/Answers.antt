@@ -1,0 +1,9 @@
+-- `meanings::meaning` meets its contract.
+-- Assumes nothing.
+use borrow.Author.Rules.{rules}
+use Rattle.meanings.specs.Means.{meaning_of}
+use Rattle.meanings.proofs.meaning.Goals as goal
+
+pub returns : goal.returns
+unfolding meaning_of
+returns c = cc

@@ -1,0 +1,28 @@
+-- `passes::labels::begin` meets its contract: the rows stored, and those that are left, make the whole table.
+-- Assumes nothing.
+use mathlib.Core.Path.{◌≡◌, ◌∙◌, ap, sym}
+use Prim.Native.Nat.{◌≤◌, ◌-◌, ◌*◌}
+use lib.Dec.{ltb}
+use lib.ListN.{length}
+use Rattle.ground.specs.Stores.{put}
+use Rattle.passes.specs.Labels.{begun_rows, begun_table}
+use Rattle.passes.proofs.Tables.{begin_more, begin_done}
+use borrow.Author.Rules.{rules}
+use Rattle.passes.proofs.labels.begin.Goals as goal
+
+pub loop-k-init : goal.loop-k-init
+unfolding begun_table
+loop-k-init c = search rules
+
+pub loop-k-preserved : goal.loop-k-preserved
+loop-k-preserved c =
+    let stored = c in
+    let turn = stored in
+    let inv = turn.loop-k.invariant in (
+      search rules,
+      search rules,
+      begin_more _ _ _ _ _ _ _ _ turn.loop-k-test.true turn.requires stored.cell.ensures (ap (ltb _) turn.rows_of-rows.ensures) stored.begin_row.ensures ∙ inv.2,
+    )
+
+pub returns : goal.returns
+returns c = sym (begin_done _ _ _ _ c.loop-k-test.false) ∙ c.loop-k.invariant.2

@@ -1,0 +1,40 @@
+-- `postbytes::lists::any_unknown` meets its contract. The loop's invariant: the test of what is left of the list is the test of the whole list.
+-- Assumes nothing.
+use mathlib.Core.Path.{◌≡◌, refl, sym, ◌∙◌}
+use Prim.Native.Nat.{◌-◌, ◌≤◌}
+use native.Mathlib.Omega.{arith}
+use lib.ListN.{length, take, drop}
+use borrow.Author.Tests.{le-leb, lt-leb}
+use Rattle.postbytes.specs.Registers.{unknown_register}
+use Rattle.postbytes.specs.Lists.{any_of, any_unknown}
+use borrow.Author.Rules.{rules}
+use Rattle.postbytes.proofs.Named.{hit, miss, ended}
+use Rattle.postbytes.proofs.lists.any_unknown.Goals as goal
+
+pub loop-i-init : goal.loop-i-init
+loop-i-init c = (omega arith, refl)
+
+pub returns-then-registers-i-ge10 : goal.returns-then-registers-i-ge10
+unfolding any_unknown
+returns-then-registers-i-ge10 c =
+    let start = c in
+    let h : start.args.count ≤ length start.args.registers = omega arith in
+    sym (c.loop-i.invariant.1
+    ∙ hit unknown_register start.args.registers start.args.count c.loop-i.i h (omega arith) (le-leb 10 _ c.if-registers-i-ge10.true))
+
+pub loop-i-preserved : goal.loop-i-preserved
+loop-i-preserved c =
+    let start = c in
+    let h : start.args.count ≤ length start.args.registers = omega arith in (
+      omega arith,
+      c.loop-i.invariant.1
+          ∙ miss unknown_register start.args.registers start.args.count c.loop-i.i h (omega arith) (lt-leb 10 _ c.if-registers-i-ge10.false),
+    )
+
+pub returns : goal.returns
+unfolding any_unknown
+returns c =
+    let start = c in
+    let h : start.args.count ≤ length start.args.registers = omega arith in
+    sym (c.loop-i.invariant.1
+    ∙ ended unknown_register start.args.registers start.args.count c.loop-i.i h (omega arith))

@@ -1,0 +1,7 @@
+-- `postbytes::lists::boxes` meets its contract.
+-- Assumes nothing.
+use borrow.Author.Rules.{rules}
+use Rattle.postbytes.proofs.lists.boxes.Goals as goal
+
+pub returns : goal.returns
+returns c = rw c.u_or_s.ensures

@@ -1,0 +1,56 @@
+-- `postbytes::lists::push` meets its contract.
+-- Assumes nothing.
+use mathlib.Core.Path.{◌≡◌, ap, ◌∙◌}
+use mathlib.Core.Bool.{Bool, false}
+use mathlib.Core.List.{List}
+use Prim.Native.Nat.{ℕ, ◌/◌, ◌%◌, ◌^◌}
+use lib.Dec.{eqb}
+use lib.ListN.{take}
+use Rattle.ground.specs.Choice.{pick}
+use Rattle.ground.proofs.Tests.{neither_left}
+use Rattle.postbytes.specs.Lists.{among, not_stack, boxes}
+use Rattle.postbytes.specs.ListsWritten.{listed, ticks_of_set, push_byte_of, push_of}
+use Rattle.postbytes.specs.Meanings.{set_of}
+use Rattle.postbytes.proofs.Sets.{stack_small, stack_in_set, push_byte_of_set}
+use borrow.Author.Rules.{rules}
+use Rattle.postbytes.proofs.lists.push.Goals as goal
+
+-- the test of the own pointer in the list's set is that of the list
+own_in_set :
+    {set : ℕ} {there : Bool} (own : ℕ) (list : List ℕ) →
+    not_stack own ≡ false →
+    set ≡ set_of list →
+    there ≡ eqb (set / 2 ^ own % 2) 1 →
+    there ≡ among own list
+own_in_set own list n s e = e ∙ ap (λ (k : ℕ). eqb (k / 2 ^ own % 2) 1) s ∙ stack_in_set own list n
+
+pub returns-then-bad : goal.returns-then-bad
+unfolding push_of pick
+returns-then-bad c = rw (← c.strange.ensures, c.if-bad.true) c.refused.ensures
+
+pub has-requires : goal.has-requires
+has-requires c = stack_small _ (neither_left _ _ c.if-bad.false)
+
+pub returns-then-barred : goal.returns-then-barred
+unfolding push_of pick
+returns-then-barred c =
+    let set = c in
+    let a = set.args in
+    let e : c.has.result ≡ among a.own (take a.count a.registers) =
+    own_in_set a.own (take a.count a.registers) (neither_left _ _ set.if-bad.false) set.set_of-set.ensures c.has.ensures
+    in
+    rw (← set.strange.ensures, set.if-bad.false, ← e, c.if-barred.true) c.refused-then-barred.ensures
+
+pub returns : goal.returns
+unfolding push_of pick
+returns c =
+    let set = c in
+    let a = set.args in
+    let list = take a.count a.registers in
+    let e : c.has.result ≡ among a.own list =
+    own_in_set a.own list (neither_left _ _ set.if-bad.false) set.set_of-set.ensures c.has.ensures
+    in
+    let b : c.push_byte.result ≡ push_byte_of a.own list =
+    c.push_byte.ensures ∙ ap (ticks_of_set (boxes a.own)) set.set_of-set.ensures ∙ push_byte_of_set a.own list
+    in
+    rw (← set.strange.ensures, set.if-bad.false, ← e, c.if-barred.false) (c.listed.ensures ∙ ap listed b)

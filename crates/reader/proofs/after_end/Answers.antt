@@ -1,0 +1,29 @@
+-- `reader::after_end` meets its contract, a return for each way in which a line may end.
+-- Assumes nothing.
+use mathlib.Core.Path.{sym, ◌∙◌}
+use native.Mathlib.Omega.{arith}
+use Rattle.reader.proofs.Lines.{end_of_text, line_feed, return_feed, no_return, lone_return}
+use borrow.Author.Rules.{rules}
+use Rattle.reader.proofs.after_end.Goals as goal
+
+pub returns-then-at-text : goal.returns-then-at-text
+returns-then-at-text c = end_of_text _ _ (omega arith) c.if-at-text.true
+
+pub returns-then-c-eq10 : goal.returns-then-c-eq10
+returns-then-c-eq10 c = line_feed _ _ (omega arith) (sym c.byte-c.ensures ∙ c.if-c-eq10.true)
+
+pub returns-then-byte-eq10 : goal.returns-then-byte-eq10
+returns-then-byte-eq10 c =
+    return_feed _ _
+    (sym c.byte-c.ensures ∙ c.if-c-eq13.true)
+    (sym c.byte.ensures ∙ c.if-byte-eq10.true)
+
+pub returns-else-byte-eq10 : goal.returns-else-byte-eq10
+returns-else-byte-eq10 c =
+    let b = c.byte-c.ensures in
+    lone_return _ _ (omega arith) (λ e. c.if-c-eq10.false (b ∙ e)) (λ e. c.if-byte-eq10.false (c.byte.ensures ∙ e))
+
+pub returns-else-c-eq13 : goal.returns-else-c-eq13
+returns-else-c-eq13 c =
+    let b = c.byte-c.ensures in
+    no_return _ _ (omega arith) (λ e. c.if-c-eq10.false (b ∙ e)) (λ e. c.if-c-eq13.false (b ∙ e))

@@ -1,0 +1,22 @@
+-- `reader::measure` meets its contract: what is left of the text, added to the tally, comes to what the whole does.
+-- Assumes nothing.
+use borrow.Author.Rules.{rules}
+use Rattle.reader.specs.Steps.{start}
+use Rattle.reader.specs.declared.Tally.{Tally}
+use Rattle.reader.proofs.Tallies.{Walked, end_here, broken_here, fits_here, walk_on, total_on, size_total}
+use mathlib.Core.Path.{◌≡◌, sym, ap, ◌∙◌}
+use Prim.Native.Nat.{◌-◌}
+use native.Mathlib.Omega.{arith}
+use lib.ListN.{length, drop}
+use Rattle.reader.specs.Lines.{records_in}
+use Rattle.reader.specs.Answers.{size_of}
+use Rattle.reader.specs.Steps.{totalled}
+use Rattle.reader.proofs.measure.Given as goal
+
+abbrev pub invariant-loop-address : goal.invariant-loop-address
+invariant-loop-address l =
+    (totalled l.tally (records_in (drop l.at l.text)) ≡ size_of (records_in l.text))
+    × Walked l.text l.at l.tally
+
+abbrev pub decreases-loop-address : goal.decreases-loop-address
+decreases-loop-address l = length l.text - l.at

@@ -1,0 +1,22 @@
+-- `reader::pairs_at` meets its contract. What is left of the digits, counted and added to what was passed, is the whole.
+-- Assumes nothing.
+use mathlib.Core.Path.{◌≡◌, refl, ap, ◌∙◌}
+use Prim.Native.Nat.{ℕ, ◌+◌, ◌-◌, ◌*◌, ◌%◌, ◌<◌, ◌≤◌}
+use native.Mathlib.Omega.{arith}
+use lib.ListN.{length, drop}
+use Rattle.records.specs.Line.{sum}
+use Rattle.reader.specs.Digits.{bytes_in}
+use Rattle.reader.specs.Steps.{pair_at}
+use Rattle.reader.proofs.Digits.{pair_there, none_there, pairs_on, sums_on}
+use Rattle.reader.proofs.pairs_at.Given as goal
+
+abbrev pub invariant-loop-next : goal.invariant-loop-next
+invariant-loop-next l =
+    (l.next ≡ pair_at l.text l.end)
+    × (l.end + 2 * length (bytes_in (drop l.end l.text)) ≡ l.from + 2 * length (bytes_in (drop l.from l.text)))
+    × ((l.sum + sum (bytes_in (drop l.end l.text))) % 256 ≡ sum (bytes_in (drop l.from l.text)) % 256)
+    × (l.sum < 256)
+    × (l.end ≤ length l.text)
+
+abbrev pub decreases-loop-next : goal.decreases-loop-next
+decreases-loop-next l = length l.text - l.end

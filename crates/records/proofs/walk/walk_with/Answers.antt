@@ -1,0 +1,179 @@
+-- `records::walk::walk_with` meets its contract: at the head of each loop the text still ahead completes the whole, and so it does on every way out.
+-- Assumes nothing.
+use mathlib.Core.Path.{refl, sym, ◌∙◌}
+use mathlib.Core.Logic.{⊎_elim}
+use mathlib.Core.List.{List}
+use Prim.Native.Nat.{ℕ, ◌+◌, ◌-◌, ◌*◌, ◌^◌, ◌<◌}
+use native.Mathlib.Omega.{arith}
+use lib.ListN.{length}
+use Rattle.records.specs.Objects.{objects_of}
+use Rattle.records.specs.Text.{events, recs, text_of}
+use Rattle.records.specs.Steps.{Present, holding}
+use Rattle.records.proofs.Tables.{left_first}
+use Rattle.records.proofs.Rounds.{
+use Rattle.records.proofs.walk.walk_with.Goals as goal
+
+  objects_then,
+  along_here,
+  along_then,
+  Inner,
+  value_near,
+  value_way,
+  inner_again,
+  Outer,
+  outer_begun,
+  outer_without,
+  outer_with,
+  begin_way,
+  Outcome,
+  outcome_done,
+  outcome_over,
+  outcome_moved,
+  walked_over,
+  walked_done,
+}
+
+-- the record that the walk begins with, whatever the array holds
+abbrev first : List ℕ → Present
+first bytes = record { start = 0; n = 0; at = 0; bytes = bytes }
+
+-- the values that are left are there, and their places fit a usize
+short : (c : goal.At-values) → (c.values.k + 2 * c.values.left) * 2 < 2 ^ 63
+short c = let start = c in omega (arith, start.well-formed.1.0.1, c.values.invariant.there)
+
+pub objects-init : goal.objects-init
+objects-init c =
+    let start = c in
+    let a = start.args in
+    record {
+      way = along_here a.out.now _ (events (objects_of a.objects.now a.values.now)) (omega arith) start.requires.0;
+      left = left_first a.objects.now a.values.now start.requires.1;
+      near = start.requires.2;
+      place = omega arith;
+      within = omega arith;
+    }
+
+pub objects-preserved-then-row-ne1 : goal.objects-preserved-then-row-ne1
+objects-preserved-then-row-ne1 c =
+    let read = c in
+    outer_without read.objects.invariant read.row_at-row.result (omega arith) read.row_at-row.ensures (omega arith) c.if-row-ne1.true
+
+pub begin-present-requires : goal.begin-present-requires
+begin-present-requires c =
+    let at = c in
+    let w = at.objects.invariant in
+    let start = at in
+    (w.way.whole, w.way.small, w.place, omega (arith, w.within, start.requires.3))
+
+pub values-init : goal.values-init
+values-init c =
+    let begun = c in
+    let read = begun in
+    let inv = read.objects.invariant in
+    outer_begun inv read.row_at-row.result (omega arith) read.row_at-row.ensures (omega arith) begun.if-row-ne1.false
+    begun.begin-present.ensures begun.begin-present.auto.1.1.0 (omega arith)
+
+pub objects-preserved : goal.objects-preserved
+objects-preserved c =
+    let begun = c in
+    let read = begun in
+    outer_with read.objects.invariant read.row_at-row.result (omega arith) read.row_at-row.ensures (omega arith)
+    begun.if-row-ne1.false begun.begin-present.ensures begun.begin-present.auto.1.1.0 c.values.invariant c.values-test.false
+
+pub offset_bounds-values-k : goal.offset_bounds-values-k
+offset_bounds-values-k c = omega (arith, short (goal.at.offset_bounds-values-k c).At-values)
+
+pub bounds-values-k : goal.bounds-values-k
+bounds-values-k c = omega (arith, c.values.invariant.there)
+
+pub overflow_add-k : goal.overflow_add-k
+overflow_add-k c = omega (arith, short (goal.at.overflow_add-k c).At-values)
+
+pub offset_bounds-values-k-in-values : goal.offset_bounds-values-k-in-values
+offset_bounds-values-k-in-values c = omega (arith, short (goal.at.offset_bounds-values-k-in-values c).At-values)
+
+pub bounds-values-k-in-values : goal.bounds-values-k-in-values
+bounds-values-k-in-values c = omega (arith, c.values.invariant.there)
+
+pub value-present-requires : goal.value-present-requires
+value-present-requires c =
+    let at = c in
+    let l = at.values in
+    let start = at in (
+      l.invariant.way.whole,
+      l.invariant.way.small,
+      value_near start.args.values.now l.k l.left l.invariant c.values-test.true,
+      omega (arith, l.invariant.within, start.requires.3),
+    )
+
+pub overflow_add-k-in-values : goal.overflow_add-k-in-values
+overflow_add-k-in-values c = omega (arith, short (goal.at.overflow_add-k-in-values c).At-values)
+
+pub values-preserved : goal.values-preserved
+values-preserved c =
+    let valued = c in
+    let at = valued in
+    let l = at.values in
+    let vs = at.args.values.now in
+    inner_again vs l.k l.left l.invariant valued.values-test.true
+    valued.value-present.ensures valued.value-present.auto.1.1.0 (omega arith)
+
+-- the three ways out of the loops
+outcome :
+    (c : goal.Left-objects) →
+    let a = c.args in
+    Outcome a.room a.out.now (first a.bytes.now) (events (objects_of a.objects.now a.values.now))
+    c.objects-test.out (holding c.objects-test.present c.objects-test.bytes)
+outcome c =
+    let inv = c.objects.invariant in
+    let vs = c.args.values.now in
+    ⊎_elim
+    (λ w. outcome_moved (outcome_done inv w.0.left) w.1 w.2 w.3)
+    (⊎_elim
+    (λ w.
+    outcome_moved
+    (outcome_over (begin_way inv w.1.result (omega arith) w.1.ensures (omega arith) w.3.left w.7.ensures w.7.kept.1.1.0) w.11.taken)
+    w.12 w.13 w.14)
+    (λ w.
+    let begun = begin_way inv w.1.result (omega arith) w.1.ensures (omega arith) w.3.left w.7.ensures w.7.kept.1.1.0 in
+    let valued = value_way vs w.13.k w.13.left w.13.inv w.14.taken w.19.ensures w.19.kept.1.1.0 in
+    outcome_moved (outcome_over (along_then begun valued) w.25.taken) w.26 w.27 w.28))
+    c.objects-test.branch
+
+pub finish-requires : goal.finish-requires
+finish-requires c =
+    let left = c in
+    let start = left in
+    let o = outcome (goal.at.finish-requires c).Left-objects in
+    let w = o.going (omega arith) in
+    (o.whole, w.0.small, w.1, omega (arith, start.requires.3))
+
+pub shape_of-bytes-then-room-present-3 : goal.shape_of-bytes-then-room-present-3
+shape_of-bytes-then-room-present-3 c =
+    let left = c in
+    (outcome (goal.at.shape_of-bytes-then-room-present-3 c).Left-objects).whole ∙ sym left.requires.0
+
+pub shape_of-out-then-room-present-3 : goal.shape_of-out-then-room-present-3
+shape_of-out-then-room-present-3 c = (outcome (goal.at.shape_of-out-then-room-present-3 c).Left-objects).long
+
+pub returns-then-room-present-3 : goal.returns-then-room-present-3
+unfolding text_of recs
+returns-then-room-present-3 c =
+    let left = c in
+    let a = left.args in
+    walked_over (text_of a.objects.now a.values.now) refl refl (outcome (goal.at.returns-then-room-present-3 c).Left-objects) c.if-room-present-3.true
+
+pub shape_of-bytes-else-room-present-3 : goal.shape_of-bytes-else-room-present-3
+shape_of-bytes-else-room-present-3 c =
+    let left = c in
+    (outcome (goal.at.shape_of-bytes-else-room-present-3 c).Left-objects).whole ∙ sym left.requires.0
+
+pub shape_of-out-else-room-present-3 : goal.shape_of-out-else-room-present-3
+shape_of-out-else-room-present-3 c = c.finish.auto.1.1.0 ∙ (outcome (goal.at.shape_of-out-else-room-present-3 c).Left-objects).long
+
+pub returns-else-room-present-3 : goal.returns-else-room-present-3
+unfolding text_of recs
+returns-else-room-present-3 c =
+    let left = c in
+    let a = left.args in
+    walked_done (text_of a.objects.now a.values.now) refl refl (outcome (goal.at.returns-else-room-present-3 c).Left-objects) (omega arith) c.finish.ensures

@@ -1,0 +1,76 @@
+-- `roundtrip::comparing::agree` meets its contract. The invariant: what agreed so far, and what is left of the list and of the run, are the whole of both.
+-- Assumes nothing.
+use mathlib.Core.Path.{sym, ◌∙◌}
+use Prim.Native.Nat.{◌+◌, ◌-◌}
+use native.Mathlib.Omega.{arith}
+use borrow.Author.Rules.{rules}
+use borrow.Author.Tests.{not-true, not-false}
+use Rattle.decoder.specs.Origin.{origin}
+use Rattle.laying.specs.Entries.{rows_in}
+use Rattle.roundtrip.proofs.Agreeing.{Agreeing, agreeing_first, agreeing_near, agreeing_more, agreeing_differs, agreeing_end}
+use Rattle.roundtrip.proofs.comparing.agree.Goals as goal
+
+pub loop-place-init : goal.loop-place-init
+loop-place-init c = let s = c in
+    agreeing_first s.args.list.now s.args.theirs.now (origin s.args.address s.args.page) (omega arith) s.requires
+
+pub overflow_mul-place : goal.overflow_mul-place
+overflow_mul-place c = let s = c in
+    let n = agreeing_near s.args.list.now s.args.theirs.now (origin s.args.address s.args.page) (omega arith) s.requires c.loop-place.invariant in
+    omega (arith, n.1)
+
+pub overflow_add-address : goal.overflow_add-address
+overflow_add-address c = let s = c in
+    let n = agreeing_near s.args.list.now s.args.theirs.now (origin s.args.address s.args.page) (omega arith) s.requires c.loop-place.invariant in
+    omega (arith, n.0)
+
+pub meant_at-mine-requires : goal.meant_at-mine-requires
+meant_at-mine-requires c = let s = c in
+    (agreeing_near s.args.list.now s.args.theirs.now (origin s.args.address s.args.page) (omega arith) s.requires c.loop-place.invariant).1
+
+pub returns-then-not-alike : goal.returns-then-not-alike
+unfolding rows_in
+returns-then-not-alike c = let s = c in
+    let x = c in
+    let m = c.meant_at-mine in
+    let o = c.next_of_run-other in
+    let e = c.same-alike.ensures in
+    agreeing_differs s.args.list.now s.args.theirs.now (origin s.args.address s.args.page) (omega arith) s.requires
+    x.loop-place.at x.loop-place.place x.loop-place.invariant c.loop-place-test.true m.result o.result m.ensures o.ensures
+    (sym e ∙ not-true _ c.if-not-alike.true)
+
+-- a turn that agreed
+agreed_on :
+    (c : goal.After-struct_known-1) →
+    let s = c in
+    let x = c in
+    Agreeing s.args.list.now s.args.theirs.now (origin s.args.address s.args.page)
+    (x.loop-place.at + c.meant_at-mine.result.length) (x.loop-place.place + 1)
+unfolding rows_in
+agreed_on c = let s = c in
+    let x = c in
+    let m = c.meant_at-mine in
+    let o = c.next_of_run-other in
+    let e = c.same-alike.ensures in
+    agreeing_more s.args.list.now s.args.theirs.now (origin s.args.address s.args.page) (omega arith) s.requires
+    x.loop-place.at x.loop-place.place x.loop-place.invariant c.loop-place-test.true m.result o.result m.ensures o.ensures
+    (sym e ∙ not-false _ c.if-not-alike.false)
+
+pub overflow_add-at : goal.overflow_add-at
+overflow_add-at c = let a = agreed_on (goal.at.overflow_add-at c).After-struct_known-1 in omega (arith, a.other)
+
+pub overflow_add-place : goal.overflow_add-place
+unfolding rows_in
+overflow_add-place c = let a = agreed_on (goal.at.overflow_add-place c).After-struct_known-1 in omega (arith, a.rows)
+
+pub loop-place-smaller : goal.loop-place-smaller
+loop-place-smaller c = let a = agreed_on (goal.at.loop-place-smaller c).After-struct_known-1 in omega (arith, a.rows)
+
+pub loop-place-preserved : goal.loop-place-preserved
+loop-place-preserved c = agreed_on (goal.at.loop-place-preserved c).After-struct_known-1
+
+pub returns : goal.returns
+unfolding rows_in
+returns c = let s = c in
+    agreeing_end s.args.list.now s.args.theirs.now (origin s.args.address s.args.page) (omega arith) s.requires
+    c.loop-place.at c.loop-place.place c.loop-place.invariant c.loop-place-test.false

@@ -1,0 +1,7 @@
+-- `roundtrip::comparing::meant` meets its contract.
+-- Assumes nothing.
+use borrow.Author.Rules.{rules}
+use Rattle.roundtrip.proofs.comparing.meant.Goals as goal
+
+pub returns : goal.returns
+returns c = cc

@@ -1,0 +1,13 @@
+-- `roundtrip::writing::store_values` meets its contract: what is left of the bytes, stored after those that are, is the whole.
+-- Assumes nothing.
+use Prim.Native.Nat.{◌-◌}
+use native.Mathlib.Omega.{arith}
+use lib.ListN.{length}
+use Rattle.roundtrip.proofs.Values.{Storing, storing_first, storing_more, storing_end}
+use Rattle.roundtrip.proofs.writing.store_values.Given as goal
+
+abbrev pub invariant-loop-i : goal.invariant-loop-i
+invariant-loop-i l = Storing l.bytes l.initial.values l.values l.i
+
+abbrev pub decreases-loop-i : goal.decreases-loop-i
+decreases-loop-i l = length l.bytes - l.i

@@ -1,0 +1,12 @@
+-- `segments::repeated` meets its contract: the places in use are the first `count`.
+-- Assumes nothing.
+use mathlib.Core.Path.{◌∙◌, sym, ap}
+use native.Mathlib.Omega.{arith}
+use lib.Seq.{length-take-le}
+use borrow.Author.Rules.{rules}
+use Rattle.segments.specs.Segments.{holds_of}
+use Rattle.segments.proofs.Laws.{used}
+use Rattle.segments.proofs.repeated.Goals as goal
+
+pub returns : goal.returns
+returns c = c.holds.ensures ∙ ap (holds_of _) (used _ _ _ c.used_of-used.ensures)

@@ -1,0 +1,9 @@
+-- `statements::effects::built` meets its contract.
+-- Assumes nothing.
+use Rattle.statements.specs.Effects.{built_of}
+use borrow.Author.Rules.{rules}
+use Rattle.statements.proofs.effects.built.Goals as goal
+
+pub returns : goal.returns
+unfolding built_of
+returns c = cc

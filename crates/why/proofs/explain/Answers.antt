@@ -1,0 +1,9 @@
+-- `why::explain` meets its contract.
+-- Assumes nothing.
+use borrow.Author.Rules.{rules}
+use Rattle.why.specs.Explaining.{explained_of}
+use Rattle.why.proofs.explain.Goals as goal
+
+pub returns : goal.returns
+unfolding explained_of
+returns c = cc

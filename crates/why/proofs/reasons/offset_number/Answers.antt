@@ -1,0 +1,9 @@
+-- `why::reasons::offset_number` meets its contract.
+-- Assumes nothing.
+use borrow.Author.Rules.{rules}
+use Rattle.why.specs.Reasons.{offset_number}
+use Rattle.why.proofs.reasons.offset_number.Goals as goal
+
+pub returns : goal.returns
+unfolding offset_number
+returns c = cc
