@@ -1,79 +1,74 @@
 // Prints the listings of the texts in data/, one file after the other: each refusal, and the forms that a text may have.
 #![tactic(auto)]
 
-use libc::STDOUT_FILENO;
+use std::io;
+use std::rt::Files;
 
 // One byte more than a text may have, so that a longer one is seen to be longer.
 const SPACE: usize = 65537;
 
 // Writes the name of a file, and the listing of the text in it.
-fn report(name: &[u8]) {
+fn report(rt: &(impl Files + Print), name: &str) -> io::Result<()> {
     let mut text = [0; SPACE];
-    let file = os::open_read(name);
-    if file < 0 {
-        os::fail(name);
-        return;
-    }
-    let n = io::read_full(file, &mut text);
-    libc::close(file);
+    let n = inputs::read_file(rt, name, &mut text)?;
     let mut out = [0; listing::ROOM];
     let listed = listing::list_text(&text[..n], &mut out);
     let m = listed.length;
-    io::write_all(STDOUT_FILENO, name);
-    io::write_all(STDOUT_FILENO, b":\n");
-    io::write_all(STDOUT_FILENO, &out[..m]);
+    rt.print(name)?;
+    rt.print(":\n")?;
+    rt.write_all(&out[..m])
 }
 
 // What a text may look like.
-fn forms() {
-    report(b"example");
-    report(b"no_instruction");
-    report(b"no_last_line_end");
-    report(b"lower_case");
-    report(b"cr_lf");
-    report(b"mixed");
+fn forms(rt: &(impl Files + Print)) -> io::Result<()> {
+    report(rt, "example")?;
+    report(rt, "no_instruction")?;
+    report(rt, "no_last_line_end")?;
+    report(rt, "lower_case")?;
+    report(rt, "cr_lf")?;
+    report(rt, "mixed")
 }
 
 // Where runs begin and end, and every shape of an instruction.
-fn runs() {
-    report(b"several_runs");
-    report(b"follows_on");
-    report(b"same_address_twice");
-    report(b"last_address");
-    report(b"around_the_end");
-    report(b"shapes");
-    report(b"old_cartridge");
+fn runs(rt: &(impl Files + Print)) -> io::Result<()> {
+    report(rt, "several_runs")?;
+    report(rt, "follows_on")?;
+    report(rt, "same_address_twice")?;
+    report(rt, "last_address")?;
+    report(rt, "around_the_end")?;
+    report(rt, "shapes")?;
+    report(rt, "old_cartridge")
 }
 
 // 14 and 15.
-fn unreadable() {
-    report(b"undefined_code");
-    report(b"second_prefix");
-    report(b"undefined_postbyte");
-    report(b"extended_indirect_on_y");
-    report(b"unequal_registers");
-    report(b"cut_short");
-    report(b"cut_in_a_pc_offset");
-    report(b"lone_prefix");
+fn unreadable(rt: &(impl Files + Print)) -> io::Result<()> {
+    report(rt, "undefined_code")?;
+    report(rt, "second_prefix")?;
+    report(rt, "undefined_postbyte")?;
+    report(rt, "extended_indirect_on_y")?;
+    report(rt, "unequal_registers")?;
+    report(rt, "cut_short")?;
+    report(rt, "cut_in_a_pc_offset")?;
+    report(rt, "lone_prefix")
 }
 
 // 16, 18 and 9.
-fn refused() {
-    report(b"nothing");
-    report(b"wrong_check");
-    report(b"no_end_record");
-    report(b"after_the_end");
-    report(b"blank_line");
-    report(b"lone_return");
-    report(b"broken_and_beyond");
-    report(b"beyond");
-    report(b"longest");
-    report(b"too_long");
+fn refused(rt: &(impl Files + Print)) -> io::Result<()> {
+    report(rt, "nothing")?;
+    report(rt, "wrong_check")?;
+    report(rt, "no_end_record")?;
+    report(rt, "after_the_end")?;
+    report(rt, "blank_line")?;
+    report(rt, "lone_return")?;
+    report(rt, "broken_and_beyond")?;
+    report(rt, "beyond")?;
+    report(rt, "longest")?;
+    report(rt, "too_long")
 }
 
-fn main() {
-    forms();
-    runs();
-    unreadable();
-    refused();
+fn main(rt: HostRuntime) -> io::Result<()> {
+    forms(&rt)?;
+    runs(&rt)?;
+    unreadable(&rt)?;
+    refused(&rt)
 }

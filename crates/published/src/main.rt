@@ -13,7 +13,8 @@ mod pushes;
 
 ghost use Rattle.std.specs.Prelude.{◌<◌, ◌≤◌};
 
-use libc::STDOUT_FILENO;
+use std::io;
+use std::rt::Files;
 
 #[derive(Clone, Copy)]
 enum Table {
@@ -78,54 +79,48 @@ fn compare(table: Table, text: &[u8]) -> Tally {
     }
 }
 
-fn say(text: &[u8]) {
-    io::write_all(STDOUT_FILENO, text);
+fn say(rt: &impl Print, text: &str) -> io::Result<()> {
+    rt.print(text)
 }
 
-fn say_tally(name: &[u8], tally: Tally) {
-    say(name);
-    say(b": ");
-    io::print_decimal(STDOUT_FILENO, tally.compared);
-    say(b" compared, ");
-    io::print_decimal(STDOUT_FILENO, tally.differing);
-    say(b" differ\n");
+fn say_tally(rt: &impl Print, name: &str, tally: Tally) -> io::Result<()> {
+    say(rt, name)?;
+    say(rt, ": ")?;
+    rt.print(tally.compared)?;
+    say(rt, " compared, ")?;
+    rt.print(tally.differing)?;
+    say(rt, " differ\n")
 }
 
 // Compares the whole of a file, of at most 65,536 bytes.
-fn report(name: &[u8], table: Table) {
-    let mut text = io::large_buffer();
-    let file = os::open_read(name);
-    if file < 0 {
-        os::fail(name);
-        return;
-    }
-    let n = io::read_full(file, &mut text);
-    libc::close(file);
-    say_tally(name, compare(table, &text[..n]));
+fn report(rt: &(impl Files + Print), name: &str, table: Table) -> io::Result<()> {
+    let mut text = [0; 65536];
+    let n = inputs::read_file(rt, name, &mut text)?;
+    say_tally(rt, name, compare(table, &text[..n]))
 }
 
-fn tables() {
-    report(b"opcodes", Table::Opcodes);
-    report(b"codes", Table::Codes);
-    report(b"postbytes", Table::Postbytes);
-    report(b"negatives", Table::Negatives);
-    report(b"pushes", Table::Pushes);
-    report(b"lists", Table::Lists);
-    report(b"capstone", Table::Capstone);
+fn tables(rt: &(impl Files + Print)) -> io::Result<()> {
+    report(rt, "opcodes", Table::Opcodes)?;
+    report(rt, "codes", Table::Codes)?;
+    report(rt, "postbytes", Table::Postbytes)?;
+    report(rt, "negatives", Table::Negatives)?;
+    report(rt, "pushes", Table::Pushes)?;
+    report(rt, "lists", Table::Lists)?;
+    report(rt, "capstone", Table::Capstone)
 }
 
 // Of these every damage must be counted.
-fn damaged() {
-    report(b"damaged/opcodes", Table::Opcodes);
-    report(b"damaged/codes", Table::Codes);
-    report(b"damaged/postbytes", Table::Postbytes);
-    report(b"damaged/negatives", Table::Negatives);
-    report(b"damaged/pushes", Table::Pushes);
-    report(b"damaged/lists", Table::Lists);
-    report(b"damaged/capstone", Table::Capstone);
+fn damaged(rt: &(impl Files + Print)) -> io::Result<()> {
+    report(rt, "damaged/opcodes", Table::Opcodes)?;
+    report(rt, "damaged/codes", Table::Codes)?;
+    report(rt, "damaged/postbytes", Table::Postbytes)?;
+    report(rt, "damaged/negatives", Table::Negatives)?;
+    report(rt, "damaged/pushes", Table::Pushes)?;
+    report(rt, "damaged/lists", Table::Lists)?;
+    report(rt, "damaged/capstone", Table::Capstone)
 }
 
-fn main() {
-    tables();
-    damaged();
+fn main(rt: HostRuntime) -> io::Result<()> {
+    tables(&rt)?;
+    damaged(&rt)
 }

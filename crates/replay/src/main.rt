@@ -14,8 +14,9 @@ mod texts;
 
 ghost use Rattle.std.specs.Prelude.{◌≡◌, length};
 
-use libc::STDOUT_FILENO;
 use state::{State, Tally};
+use std::io;
+use std::rt::Files;
 
 #[derive(Clone, Copy)]
 enum File {
@@ -26,8 +27,8 @@ enum File {
     Evaluations,
 }
 
-fn say(text: &[u8]) {
-    io::write_all(STDOUT_FILENO, text);
+fn say(rt: &impl Print, text: &[u8]) -> io::Result<()> {
+    rt.write_all(text)
 }
 
 fn read(
@@ -47,49 +48,57 @@ fn read(
     }
 }
 
-fn say_differing(n: u64, line: &[u8]) {
-    say(b"line ");
-    io::print_decimal(STDOUT_FILENO, n);
-    say(b" differs: ");
-    say(line);
-    say(b"\n");
+fn say_differing(rt: &impl Print, n: u64, line: &[u8]) -> io::Result<()> {
+    say(rt, b"line ")?;
+    rt.print(n)?;
+    say(rt, b" differs: ")?;
+    say(rt, line)?;
+    say(rt, b"\n")
 }
 
 // Reads a line, and prints it and its number where its answer differs.
 fn turn(
+    rt: &impl Print,
     file: File,
     s: State,
     line: &[u8],
     first: &mut [u16],
     second: &mut [u16],
     out: &mut [u8],
-) -> State {
+) -> io::Result<State> {
     let before = s.tally;
     let next = read(file, s.entered(), line, first, second, out);
     let after = next.tally;
     if before.differing < after.differing {
-        say_differing(next.line, line);
+        say_differing(rt, next.line, line)?;
     }
-    next
+    Ok(next)
 }
 
-fn walk(file: File, text: &[u8], first: &mut [u16], second: &mut [u16], out: &mut [u8]) -> Tally {
+fn walk(
+    rt: &impl Print,
+    file: File,
+    text: &[u8],
+    first: &mut [u16],
+    second: &mut [u16],
+    out: &mut [u8],
+) -> io::Result<Tally> {
     let mut s = state::start();
     let mut at: usize = 0;
     while at < text.len() {
         let end = lines::end_of(text, at);
-        s = turn(file, s, &text[at..end], first, second, out);
+        s = turn(rt, file, s, &text[at..end], first, second, out)?;
         at = lines::after(text, end);
     }
-    s.tally
+    Ok(s.tally)
 }
 
 // The two tables that a file's lines fill, and the text that is written of them.
-fn replay(file: File, text: &[u8]) -> Tally {
+fn replay(rt: &impl Print, file: File, text: &[u8]) -> io::Result<Tally> {
     let mut first = [0u16; 1030];
     let mut second = [0u16; 1030];
     let mut out = [0u8; 4096];
-    walk(file, text, &mut first, &mut second, &mut out)
+    walk(rt, file, text, &mut first, &mut second, &mut out)
 }
 
 // Room for the longest file of the list.
@@ -99,47 +108,41 @@ fn buffer() -> [u8; 600000]
     [0; 600000]
 }
 
-fn say_tally(name: &[u8], tally: Tally) {
-    say(name);
-    say(b": ");
-    io::print_decimal(STDOUT_FILENO, tally.compared);
-    say(b" compared, ");
-    io::print_decimal(STDOUT_FILENO, tally.listed);
-    say(b" of them by a listed difference, ");
-    io::print_decimal(STDOUT_FILENO, tally.differing);
-    say(b" differ\n");
+fn say_tally(rt: &impl Print, name: &str, tally: Tally) -> io::Result<()> {
+    rt.print(name)?;
+    say(rt, b": ")?;
+    rt.print(tally.compared)?;
+    say(rt, b" compared, ")?;
+    rt.print(tally.listed)?;
+    say(rt, b" of them by a listed difference, ")?;
+    rt.print(tally.differing)?;
+    say(rt, b" differ\n")
 }
 
-fn report(name: &[u8], file: File) {
+fn report(rt: &(impl Files + Print), name: &str, file: File) -> io::Result<()> {
     let mut text = buffer();
-    let opened = os::open_read(name);
-    if opened < 0 {
-        os::fail(name);
-        return;
-    }
-    let n = io::read_full(opened, &mut text);
-    libc::close(opened);
-    say_tally(name, replay(file, &text[..n]));
+    let n = inputs::read_file(rt, name, &mut text)?;
+    say_tally(rt, name, replay(rt, file, &text[..n])?)
 }
 
-fn list() {
-    report(b"builds", File::Builds);
-    report(b"texts", File::Texts);
-    report(b"labels", File::Labels);
-    report(b"segments", File::Segments);
-    report(b"evaluations", File::Evaluations);
+fn list(rt: &(impl Files + Print)) -> io::Result<()> {
+    report(rt, "builds", File::Builds)?;
+    report(rt, "texts", File::Texts)?;
+    report(rt, "labels", File::Labels)?;
+    report(rt, "segments", File::Segments)?;
+    report(rt, "evaluations", File::Evaluations)
 }
 
 // Of these every damage must be counted.
-fn damaged() {
-    report(b"damaged/builds", File::Builds);
-    report(b"damaged/texts", File::Texts);
-    report(b"damaged/labels", File::Labels);
-    report(b"damaged/segments", File::Segments);
-    report(b"damaged/evaluations", File::Evaluations);
+fn damaged(rt: &(impl Files + Print)) -> io::Result<()> {
+    report(rt, "damaged/builds", File::Builds)?;
+    report(rt, "damaged/texts", File::Texts)?;
+    report(rt, "damaged/labels", File::Labels)?;
+    report(rt, "damaged/segments", File::Segments)?;
+    report(rt, "damaged/evaluations", File::Evaluations)
 }
 
-fn main() {
-    list();
-    damaged();
+fn main(rt: HostRuntime) -> io::Result<()> {
+    list(&rt)?;
+    damaged(&rt)
 }

@@ -1,6 +1,6 @@
 // The two tables that lines fill.
 ghost use Rattle.std.specs.Prelude.{◌≤◌};
-ghost use Rattle.io.specs.Counts.{IsPrefixLen};
+ghost use Rattle.std.specs.Counts.{IsPrefixLen};
 
 use ground::buffers::store_cell;
 

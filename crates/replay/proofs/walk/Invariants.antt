@@ -8,8 +8,8 @@ use lib.ListN.{length}
 use Rattle.replay.proofs.walk.Given as goal
 
 abbrev pub invariant-loop-at : goal.invariant-loop-at
-invariant-loop-at l =
+invariant-loop-at g l =
     (l.at ≤ length l.text) × (length l.first ≡ length l.initial.first) × (length l.second ≡ length l.initial.second) × (length l.out ≡ length l.initial.out)
 
 abbrev pub decreases-loop-at : goal.decreases-loop-at
-decreases-loop-at l = length l.text - l.at
+decreases-loop-at g l = length l.text - l.at
