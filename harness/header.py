@@ -33,7 +33,7 @@ def exported():
     for path in glob.glob(os.path.join(ROOT, "crates/joltwagon/src/*.rt")):
         with open(path) as file:
             text = file.read()
-        for name, parameters, back in re.findall(r'#\[no_mangle\]\npub extern "C" fn (\w+)\(([^)]*)\)(?: -> (\w+))?', text):
+        for name, parameters, back in re.findall(r'#\[unsafe\(no_mangle\)\]\npub extern "C" fn (\w+)\(([^)]*)\)(?: -> (\w+))?', text):
             found[name] = (TYPES[back], list(c_types(parameters)))
     return found
 

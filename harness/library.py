@@ -1,6 +1,6 @@
 """This project's library, called through its exported functions (include/joltwagon.h; rows as in docs/ROWS.md).
 
-The archive is the file JOLTWAGON_LIB, or else it is proved and made first (rt staticlib joltwagon). On x86-64.
+The archive is the file JOLTWAGON_LIB, or else it is proved and made first (rt lib in crates/joltwagon). On x86-64.
 """
 import ctypes
 import os
@@ -15,8 +15,9 @@ def archive():
     given = os.environ.get("JOLTWAGON_LIB")
     if given:
         return given
-    subprocess.run(["rt", "staticlib", "joltwagon"], cwd=ROOT, check=True)
-    return os.path.join(ROOT, "target", "staticlib", "libjoltwagon.a")
+    crate = os.path.join(ROOT, "crates", "joltwagon")
+    subprocess.run(["rt", "lib"], cwd=crate, check=True)
+    return os.path.join(crate, "out", "libjoltwagon.a")
 
 
 def shared():

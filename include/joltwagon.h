@@ -1,6 +1,6 @@
 /* Joltwagon: the proved back end of a 6809 assembler, for C.
  *
- * Link target/staticlib/libjoltwagon.a, which `rt staticlib joltwagon` writes (x86-64). The library keeps no state, allocates
+ * Link crates/joltwagon/out/libjoltwagon.a, which `rt lib` in crates/joltwagon writes (x86-64). The library keeps no state, allocates
  * nothing and calls nothing but memset, the one symbol that it leaves undefined, so every function may be called from any thread.
  *
  * A call returns its refusal, one of enum jw_refusal, 0 for none; above it jw_settle and jw_hex return the number of passes, and
