@@ -1,6 +1,5 @@
 -- `answers::hand` meets its contract.
 -- Assumes nothing.
-use borrow.Author.Rules.{rules}
 use Rattle.answers.specs.Said.{said}
 use Rattle.answers.proofs.Laws.{refused, too_short_lem, handed}
 use Rattle.answers.proofs.hand.Goals as goal

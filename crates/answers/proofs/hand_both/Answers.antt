@@ -2,7 +2,6 @@
 -- Assumes nothing.
 use native.Mathlib.Omega.{arith}
 use lib.ListN.{length-append}
-use borrow.Author.Rules.{rules}
 use mathlib.Core.List.{◌++◌}
 use Rattle.answers.specs.Said.{said}
 use Rattle.answers.proofs.Laws.{refused, too_short_lem, handed, in_two}

@@ -3,8 +3,7 @@
 use mathlib.Core.Path.{◌∙◌, sym, ap}
 use mathlib.Core.Bool.{false}
 use native.Mathlib.Omega.{arith}
-use borrow.Author.Tests.{not-true, not-false, lt-ltb, le-ltb, eq-eqb, ne_eqb}
-use borrow.Author.Rules.{rules}
+use borrow.Author.Tests.{lt-ltb, le-ltb, eq-eqb, ne_eqb}
 use Rattle.postbytes.proofs.Told.{lacking_undefined}
 use Rattle.decoder.specs.Meaning.{unread}
 use Rattle.decoder.specs.Operands.{indexed_as, indexed_at}

@@ -1,7 +1,5 @@
 -- `instruction::Instruction::first_refusal` meets its contract: where nothing is wrong the code has told 1 and 2, else they are asked in 01's order.
 -- Assumes nothing.
-use borrow.Author.Rules.{rules}
-use borrow.Author.Tests.{not-true, not-false}
 use Rattle.ground.specs.Choice.{pick}
 use Rattle.instruction.specs.Building.{early_of}
 use Rattle.instruction.specs.Quick.{misses, first_refusal}
