@@ -11,7 +11,7 @@ ghost use Rattle.passes.specs.Labels.{laid_over};
 ghost use Rattle.passes.specs.Walks.{source};
 ghost use Rattle.passes.specs.Passes.{worked_table};
 ghost use Rattle.assembly.specs.Objects.{objects_of, values_of};
-ghost use Rattle.assembly.specs.Answers.{refusal_of, refused, assembledOf, stored, labelled};
+ghost use Rattle.assembly.specs.Answers.{refusal_of, refused, assembled_of, stored, labelled};
 ghost use Rattle.assembly.specs.Text.{settled_text, hex_refusal, unwritten, hexed_of};
 ghost use Rattle.assembly.specs.Steps.{first_place, objects_on, values_on, plan_of};
 
@@ -132,7 +132,7 @@ pub fn assemble(
     objects: &mut [u16],
     values: &mut [u16],
 ) -> Assembled
-    ensures answer { result ≡ assembledOf (source list.now items.now nodes.now) labels.old (length objects.old) (length values.old) }
+    ensures answer { result ≡ assembled_of (source list.now items.now nodes.now) labels.old (length objects.old) (length values.old) }
     ensures labels { labels.new ≡ labelled (refusal_of (source list.now items.now nodes.now) labels.old (length objects.old) (length values.old)) (source list.now items.now nodes.now) labels.old }
     ensures objects { objects.new ≡ stored (refusal_of (source list.now items.now nodes.now) labels.old (length objects.old) (length values.old)) (objects_of (source list.now items.now nodes.now) labels.old) objects.old }
     ensures values { values.new ≡ stored (refusal_of (source list.now items.now nodes.now) labels.old (length objects.old) (length values.old)) (values_of (source list.now items.now nodes.now) labels.old) values.old }

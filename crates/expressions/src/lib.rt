@@ -5,8 +5,8 @@ mod finding;
 pub mod moving;
 
 ghost use Rattle.std.specs.Prelude.{◌≡◌};
-ghost use Rattle.expressions.specs.Answers.{too_many, evaluation, evaluations, nodeAnswer, nodeAnswers, labelAnswer};
-ghost use Rattle.expressions.specs.Answers.{narrowOf, value_of, answer_of, pair_of, refusedAnswer, refusedPair};
+ghost use Rattle.expressions.specs.Answers.{too_many, evaluation, evaluations, node_answer, node_answers, label_answer};
+ghost use Rattle.expressions.specs.Answers.{narrow_of, value_of, answer_of, pair_of, refused_answer, refused_pair};
 
 use finding::Found;
 use ground::refusals::OVER_LIMIT;
@@ -41,7 +41,7 @@ pub fn too_many_nodes(nodes: &[u16]) -> bool
 
 // The value of a node at a location: 17 first, then 11 before 10.
 pub fn node_value(nodes: &[u16], labels: &[u16], node: u16, location: u16, signed: bool) -> Answer
-    ensures { result ≡ nodeAnswer nodes.now labels.now node location signed }
+    ensures { result ≡ node_answer nodes.now labels.now node location signed }
 {
     if too_many_nodes(nodes) {
         return refused(OVER_LIMIT);
@@ -51,7 +51,7 @@ pub fn node_value(nodes: &[u16], labels: &[u16], node: u16, location: u16, signe
 
 // Both values of a node: 17 first, then 11 before 10.
 pub fn node_pair(nodes: &[u16], labels: &[u16], node: u16, location: u16) -> Evaluated
-    ensures { result ≡ nodeAnswers nodes.now labels.now node location }
+    ensures { result ≡ node_answers nodes.now labels.now node location }
 {
     if too_many_nodes(nodes) {
         return refused_pair(OVER_LIMIT);
@@ -61,7 +61,7 @@ pub fn node_pair(nodes: &[u16], labels: &[u16], node: u16, location: u16) -> Eva
 
 // The value of a label, as stored in its width: 17 first, then 11 before 10.
 pub fn label_value(nodes: &[u16], labels: &[u16], label: u16) -> Answer
-    ensures { result ≡ labelAnswer nodes.now labels.now label }
+    ensures { result ≡ label_answer nodes.now labels.now label }
 {
     if too_many_nodes(nodes) {
         return refused(OVER_LIMIT);
@@ -85,7 +85,7 @@ pub fn evaluate_pair(nodes: &[u16], labels: &[u16], node: u16, location: u16) ->
 
 // A refusal in place of a value.
 pub fn refused(refusal: u8) -> Answer
-    ensures { result ≡ refusedAnswer refusal }
+    ensures { result ≡ refused_answer refusal }
 {
     let value = Value {
         number: 0,
@@ -95,7 +95,7 @@ pub fn refused(refusal: u8) -> Answer
 }
 
 fn refused_pair(refusal: u8) -> Evaluated
-    ensures { result ≡ refusedPair refusal }
+    ensures { result ≡ refused_pair refusal }
 {
     let value = Value {
         number: 0,
@@ -150,7 +150,7 @@ fn value_of(found: Found, signed: bool) -> Value
 }
 
 fn narrow(number: u16, signed: bool) -> bool
-    ensures { result ≡ narrowOf signed number }
+    ensures { result ≡ narrow_of signed number }
 {
     if signed {
         return (number <= 127) | (LEAST_BYTE <= number);

@@ -193,6 +193,7 @@ fn unmade(n: u8) -> Made
 }
 
 // Whether an instruction that is accepted leaves the page unknown.
+#[tactic(auto, unfolding(crate::specs::Building::dirties_of, ground::specs::Choice::pick))]
 fn dirties(o: Operand) -> bool
     ensures { result ≡ dirties_of o }
 {

@@ -1,7 +1,7 @@
 // The values of nodes and labels, and moving labels.
 ghost use Rattle.std.specs.Prelude.{◌≡◌, length};
 ghost use Rattle.answers.specs.Said.{refusal_of, cells_after};
-ghost use Rattle.expressions.specs.Answers.{nodeAnswers, labelAnswer};
+ghost use Rattle.expressions.specs.Answers.{node_answers, label_answer};
 ghost use Rattle.expressions.specs.Moving.{moved_table};
 ghost use Rattle.joltwagon.specs.Evaluating.{evaluated_said, value_said};
 
@@ -16,8 +16,8 @@ pub extern "C" fn jw_node(
     location: u16,
     answer: &mut [u16],
 ) -> u8
-    ensures value { result ≡ refusal_of (evaluated_said (nodeAnswers nodes.now labels.now node location)) (length answer.old) }
-    ensures answer_after { answer.new ≡ cells_after (evaluated_said (nodeAnswers nodes.now labels.now node location)) answer.old }
+    ensures value { result ≡ refusal_of (evaluated_said (node_answers nodes.now labels.now node location)) (length answer.old) }
+    ensures answer_after { answer.new ≡ cells_after (evaluated_said (node_answers nodes.now labels.now node location)) answer.old }
 {
     let found = expressions::node_pair(nodes, labels, node, location);
     let unsigned = found.unsigned;
@@ -34,8 +34,8 @@ pub extern "C" fn jw_node(
 // The value of a label, as stored in its width.
 #[unsafe(no_mangle)]
 pub extern "C" fn jw_label(nodes: &[u16], labels: &[u16], label: u16, answer: &mut [u16]) -> u8
-    ensures value { result ≡ refusal_of (value_said (labelAnswer nodes.now labels.now label)) (length answer.old) }
-    ensures answer_after { answer.new ≡ cells_after (value_said (labelAnswer nodes.now labels.now label)) answer.old }
+    ensures value { result ≡ refusal_of (value_said (label_answer nodes.now labels.now label)) (length answer.old) }
+    ensures answer_after { answer.new ≡ cells_after (value_said (label_answer nodes.now labels.now label)) answer.old }
 {
     let found = expressions::label_value(nodes, labels, label);
     let value = found.value;

@@ -5,7 +5,7 @@ mod lines;
 
 ghost use Rattle.std.specs.Prelude.{◌≡◌, ◌+◌, ◌*◌, ◌^◌, ◌<◌, ◌≤◌, length};
 ghost use Rattle.ground.specs.Stores.{Wrote};
-ghost use Rattle.reader.specs.Answers.{runsIn};
+ghost use Rattle.reader.specs.Answers.{runs_in};
 ghost use Rattle.decoder.specs.Run.{run_of};
 ghost use Rattle.listing.specs.Listing.{End, read_from, in_run, in_runs, refusal_of, lines_of, printed, listing_of, listed_of, buffer_of, Counts};
 ghost use Rattle.listing.specs.Steps.{left, Passed, Ran};
@@ -69,7 +69,7 @@ fn list_run(bytes: &[u8], address: u16, out: &mut [u8], from: Progress) -> Progr
 // Writes the lines of all runs of a text, up to the first instruction that is refused. A run is read into `bytes`.
 fn list_runs(text: &[u8], bytes: &mut [u8], out: &mut [u8]) -> Progress
     requires { (refusal_of text.now ≡ 0) × (65536 ≤ length bytes.old) }
-    ensures { Ran out.old (in_runs (runsIn text.now)) result out.new }
+    ensures { Ran out.old (in_runs (runs_in text.now)) result out.new }
 {
     let mut done = Progress {
         at: 0,

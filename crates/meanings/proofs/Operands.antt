@@ -166,7 +166,7 @@ module _ (operand : Operand) (page : Page) (address size o p c : ℕ) (t : List 
           ≡ reading 1 (pick b (Pair (first operand) (second operand)) (Push (set_of (take operand.count operand.registers))))
       go row true q z = back.pair_list_back o after t operand.registers operand.count (number_size_of o register) q z
       go row false q z =
-          back.push_list_back o after t (own_stack o) operand.registers operand.count (number_size_of o register) q (row.own_val q) z
+          back.push_list_back o after t (own_stack o) operand.registers operand.count (number_size_of o register) q (row.own q) z
 
   -- ---- all of them
   -- built under a page that the reader's meets

@@ -8,8 +8,8 @@ use Rattle.passes.proofs.settle.Kinds as settle_kinds
 use Rattle.passes.proofs.settle.Reads as settle
 use Rattle.passes.proofs.settle_in.Kinds as settle_in_kinds
 use Rattle.passes.proofs.settle_in.Reads as settle_in
-use Rattle.passes.proofs.too_many_lem.Kinds as too_many_kinds
-use Rattle.passes.proofs.too_many_lem.Reads as too_many_lem
+use Rattle.passes.proofs.too_many.Kinds as too_many_kinds
+use Rattle.passes.proofs.too_many.Reads as too_many
 use Rattle.passes.proofs.labels.store_labels.Kinds as store_labels_kinds
 use Rattle.passes.proofs.labels.store_labels.Reads as store_labels
 use Rattle.passes.proofs.labels.labels_fit.Kinds as labels_fit_kinds

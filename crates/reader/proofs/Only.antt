@@ -48,23 +48,23 @@ abbrev Says : {M : Type 1} {R : Type 0} (𝓤 : Ura M) → (R → SProp 𝓤) �
 Says 𝓤 P x = (r : _) → P r ≡ fact 𝓤 (r ≡ x)
 
 module _ {M : Type 1} {𝓤 : Ura M} (𝓛 : Logic 𝓤) (mem : Memory → SProp 𝓤) (run : Routine → Fun 𝓤) (κs : Lfts 1) where
-  pub begin_single : (s : _) (s' : _) → Says 𝓤 (begin.ensures_1 𝓛 κs mem run s s') (reader_at s'.entry 0)
+  pub begin_single : (s : _) (s' : _) → Says 𝓤 (begin.ensures-1 𝓛 κs mem run s s') (reader_at s'.entry 0)
   begin_single s s' r = refl
 
-  pub place_single : (d : _) (d' : _) → Says 𝓤 (place.ensures_1 𝓛 κs mem run d d') d'.entry.at
+  pub place_single : (d : _) (d' : _) → Says 𝓤 (place.ensures-1 𝓛 κs mem run d d') d'.entry.at
   place_single d d' r = refl
 
-  pub moved_single : (d : _) (at : ℕ) (d' : _) (at' : _) → Says 𝓤 (moved.ensures_1 𝓛 κs mem run d at d' at') (reader_at d'.entry.text at)
+  pub moved_single : (d : _) (at : ℕ) (d' : _) (at' : _) → Says 𝓤 (moved.ensures-1 𝓛 κs mem run d at d' at') (reader_at d'.entry.text at)
   moved_single d at d' at' r = refl
 
 -- the clause of `next_run` is that of `read_run`, of the text and the place that the reader keeps; and no second answer and content fit that
 pub next_run_single :
     {M : Type 1} {𝓤 : Ura M} (𝓛 : Logic 𝓤) (mem : Memory → SProp 𝓤) (run : Routine → Fun 𝓤) (κs : Lfts 2) (d : _) (x : _) (d' : _) (x' : _) (r : Run)
-    → next_run.ensures_1 𝓛 κs mem run d x d' x' r ≡ fact 𝓤 (RunReadIs d'.entry.text.now d'.entry.at x'.entry.now r x'.exit.now)
+    → next_run.ensures-1 𝓛 κs mem run d x d' x' r ≡ fact 𝓤 (RunReadIs d'.entry.text.now d'.entry.at x'.entry.now r x'.exit.now)
 next_run_single 𝓛 mem run κs d x d' x' r = refl
 
 -- and that of `first_run` at the start of a text
 pub first_run_single :
     {M : Type 1} {𝓤 : Ura M} (𝓛 : Logic 𝓤) (mem : Memory → SProp 𝓤) (run : Routine → Fun 𝓤) (κs : Lfts 2) (t : _) (x : _) (t' : _) (x' : _) (r : Run)
-    → first_run.ensures_1 𝓛 κs mem run t x t' x' r ≡ fact 𝓤 (RunReadIs t'.entry.now 0 x'.entry.now r x'.exit.now)
+    → first_run.ensures-1 𝓛 κs mem run t x t' x' r ≡ fact 𝓤 (RunReadIs t'.entry.now 0 x'.entry.now r x'.exit.now)
 first_run_single 𝓛 mem run κs t x t' x' r = refl

@@ -1,7 +1,6 @@
 -- `answers::size` meets its contract.
 -- Assumes nothing.
 use mathlib.Core.Path.{refl}
-use borrow.Author.Rules.{rules}
 use Rattle.answers.specs.Sizes.{size_cells}
 use Rattle.answers.proofs.size.Goals as goal
 

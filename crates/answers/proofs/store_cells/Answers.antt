@@ -1,11 +1,10 @@
 -- `answers::store_cells` meets its contract. What is left of the cells, stored after those that are, is the whole.
 -- Assumes nothing.
-use mathlib.Core.Path.{◌≡◌, refl, sym, ap, ◌∙◌}
-use Prim.Native.Nat.{ℕ, ◌+◌, ◌-◌, ◌≤◌}
+use mathlib.Core.Path.{refl, sym, ap, ◌∙◌}
+use Prim.Native.Nat.{ℕ, ◌+◌}
 use native.Mathlib.Nat.{add-zero}
 use native.Mathlib.Omega.{arith}
-use lib.ListN.{length, drop, set, get_or, length-set, drop_of_length-le}
-use borrow.Author.Rules.{rules}
+use lib.ListN.{drop, set, get_or, length-set, drop_of_length-le}
 use Rattle.ground.specs.Stores.{put}
 use Rattle.ground.proofs.Stores.{drop_next}
 use Rattle.answers.proofs.store_cells.Goals as goal

@@ -1,6 +1,5 @@
 -- `expressions::answer_of` meets its contract: the test says whether there is a value.
 -- Assumes nothing.
-use borrow.Author.Rules.{rules}
 use borrow.Author.Tests.{eq-eqb, ne_eqb}
 use Rattle.ground.proofs.Choices.{pick_true, pick_false}
 use Rattle.expressions.specs.Answers.{answer_of}

@@ -1,6 +1,5 @@
 -- `expressions::evaluate` meets its contract: the node is asked, and its number stored.
 -- Assumes nothing.
-use borrow.Author.Rules.{rules}
 use Rattle.expressions.specs.Answers.{evaluation}
 use Rattle.expressions.proofs.evaluate.Goals as goal
 

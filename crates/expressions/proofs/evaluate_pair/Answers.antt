@@ -1,6 +1,5 @@
 -- `expressions::evaluate_pair` meets its contract: the node is asked once, and its number stored twice.
 -- Assumes nothing.
-use borrow.Author.Rules.{rules}
 use Rattle.expressions.specs.Answers.{evaluations}
 use Rattle.expressions.proofs.evaluate_pair.Goals as goal
 

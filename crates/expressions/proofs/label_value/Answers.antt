@@ -1,7 +1,6 @@
 -- `expressions::label_value` meets its contract: the limit is tested before all else.
 -- Assumes nothing.
 use mathlib.Core.Path.{sym, ap, ◌∙◌}
-use borrow.Author.Rules.{rules}
 use Rattle.ground.proofs.Choices.{pick_true, pick_false}
 use Rattle.expressions.specs.Answers.{answer_of, label_answer}
 use Rattle.expressions.proofs.label_value.Goals as goal

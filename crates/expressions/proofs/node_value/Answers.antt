@@ -1,7 +1,6 @@
 -- `expressions::node_value` meets its contract: the limit is tested before all else.
 -- Assumes nothing.
 use mathlib.Core.Path.{sym, ◌∙◌}
-use borrow.Author.Rules.{rules}
 use Rattle.ground.proofs.Choices.{pick_true, pick_false}
 use Rattle.expressions.specs.Answers.{node_answer}
 use Rattle.expressions.proofs.node_value.Goals as goal

@@ -1,6 +1,5 @@
 -- `expressions::pair_of` meets its contract: the test says whether there are values.
 -- Assumes nothing.
-use borrow.Author.Rules.{rules}
 use borrow.Author.Tests.{eq-eqb, ne_eqb}
 use Rattle.ground.proofs.Choices.{pick_true, pick_false}
 use Rattle.expressions.specs.Answers.{pair_of}

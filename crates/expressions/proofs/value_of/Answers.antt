@@ -1,6 +1,5 @@
 -- `expressions::value_of` meets its contract: the test says which width is chosen.
 -- Assumes nothing.
-use borrow.Author.Rules.{rules}
 use Rattle.ground.specs.Choice.{pick}
 use Rattle.expressions.specs.Answers.{value_of}
 use Rattle.expressions.proofs.value_of.Goals as goal

@@ -1,7 +1,6 @@
 -- `instruction::assemble` meets its contract.
 -- Assumes nothing.
 use mathlib.Core.Path.{ap, sym, ◌∙◌}
-use borrow.Author.Rules.{rules}
 use Rattle.instruction.specs.Building.{handed}
 use Rattle.instruction.specs.Quick.{with_outcome}
 use Rattle.instruction.proofs.Quick.{with_outcome_lem}

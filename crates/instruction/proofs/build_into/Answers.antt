@@ -1,10 +1,7 @@
 -- `instruction::build_into` meets its contract.
 -- Assumes nothing.
 use mathlib.Core.Path.{sym, ◌∙◌}
-use Prim.Native.Nat.{◌≤◌}
-use lib.ListN.{length}
 use lib.Seq.{length-take-le}
-use borrow.Author.Rules.{rules}
 use borrow.Author.Tests.{lt-ltb, le-ltb}
 use Rattle.ground.specs.Choice.{pick}
 use Rattle.instruction.specs.Building.{placed_of, buffer_of}
@@ -18,17 +15,11 @@ returns-then-out-end c =
     let h = lt-ltb _ _ c.if-out-end.true in
     record { answer = rw (← e, h); buffer = rw (← e, h) }
 
--- no more bytes than the build has
-within : (c : goal.After-build-built) → c.build-built.result.length ≤ length c.build-built.result.bytes
-within c =
-    let a = c.args in
-    built_within a.i a.v a.page a.address c.build-built.ensures
-
 pub slice_bounds-bytes-end : goal.slice_bounds-bytes-end
-slice_bounds-bytes-end c = within (goal.at.slice_bounds-bytes-end c).After-build-built
+slice_bounds-bytes-end c = built_within c.args.i c.args.v c.args.page c.args.address c.build-built.ensures
 
 pub slice_bounds-store_all-end : goal.slice_bounds-store_all-end
-slice_bounds-store_all-end c = sym (length-take-le _ _ (within (goal.at.slice_bounds-store_all-end c).After-build-built))
+slice_bounds-store_all-end c = sym (length-take-le _ _ (built_within c.args.i c.args.v c.args.page c.args.address c.build-built.ensures))
 
 pub returns : goal.returns
 unfolding placed_of buffer_of pick
@@ -36,4 +27,4 @@ returns c =
     let built = c in
     let e = built.build-built.ensures in
     let h = c.if-out-end.false in
-    record { answer = rw (← e, le-ltb _ _ h); buffer = rw (← e, le-ltb _ _ h) (c.store_all.ensures ∙ front_all _ _ _ (within (goal.at.returns c).After-build-built) h) }
+    record { answer = rw (← e, le-ltb _ _ h); buffer = rw (← e, le-ltb _ _ h) (c.store_all.ensures ∙ front_all _ _ _ (built_within c.args.i c.args.v c.args.page c.args.address c.build-built.ensures) h) }

@@ -1,6 +1,5 @@
 -- `instruction::no_instruction` meets its contract.
 -- Assumes nothing.
-use borrow.Author.Rules.{rules}
 use Rattle.instruction.proofs.no_instruction.Goals as goal
 
 pub returns : goal.returns

@@ -1,6 +1,5 @@
 -- `instruction::unmade` meets its contract.
 -- Assumes nothing.
-use borrow.Author.Rules.{rules}
 use Rattle.instruction.proofs.unmade.Goals as goal
 
 pub returns : goal.returns

@@ -9,6 +9,7 @@ use Rattle.laying.specs.Entries.{rows_in, entries_from, entries_of}
 use Rattle.laying.specs.Laying.{lay_from, answer_of}
 use Rattle.laying.proofs.Turns.{entries_next, entries_done, Laying, laying_first, laying_done, laying_refused, laying_more}
 use Rattle.laying.proofs.measure_rows.Goals as goal
+use Rattle.laying.proofs.measure_rows.Goals.{After-struct_known-1}
 
 pub loop-left-init : goal.loop-left-init
 unfolding entries_of rows_in
@@ -36,7 +37,7 @@ returns-then-refusal-ne0 c =
 
 -- a turn that was not refused
 laid_on :
-    (c : goal.After-struct_known-1) →
+    (c : After-struct_known-1) →
     let a = c.args in
     let l = c.loop-left in
     Laying (lay_from (entries_of a.list.now) a.address a.room) (entries_from (l.left - 1) a.list.now (l.row + 21)) a.address

@@ -17,13 +17,14 @@ use Rattle.laying.specs.Exactly.{bytes_from}
 use Rattle.laying.proofs.Builds.{built_within, built_most}
 use Rattle.laying.proofs.Turns.{entries_next, entries_done, built_stored}
 use Rattle.laying.proofs.store_rows.Goals as goal
+use Rattle.laying.proofs.store_rows.Goals.{After-built_at-built}
 
 pub loop-left-init : goal.loop-left-init
 unfolding entries_of rows_in
 loop-left-init c = (rw add-zero, omega arith, refl, omega arith)
 
 -- no more bytes than the build has
-within : (c : goal.After-built_at-built) → c.built_at-built.result.length ≤ length c.built_at-built.result.bytes
+within : (c : After-built_at-built) → c.built_at-built.result.length ≤ length c.built_at-built.result.bytes
 within c =
     let a = c.args in
     let l = c.loop-left in

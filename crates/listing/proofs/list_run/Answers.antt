@@ -34,6 +34,14 @@ overflow_cast-place c = omega (arith, c.requires.0, c.loop-place-test.true)
 pub overflow_add-address : goal.overflow_add-address
 overflow_add-address c = omega (arith, c.requires.0, c.loop-place-test.true)
 
+pub slice_bounds-put_instruction-end : goal.slice_bounds-put_instruction-end
+slice_bounds-put_instruction-end c =
+    let a = c.args in
+    let l = c.loop-place in
+    let read = c.next_of_run-read in
+    let s = size_there a.bytes.now a.address c.requires.0 l.place read.result read.ensures c.loop-place-test.true c.if-read-ne0.false in
+    omega (arith, s.1)
+
 pub put_instruction-at-requires : goal.put_instruction-at-requires
 put_instruction-at-requires c =
     let a = c.args in

@@ -14,7 +14,7 @@ pub loop-run-init : goal.loop-run-init
 loop-run-init c = let a = c.args in (walking_first a.out.now a.text.now c.requires.0, c.requires.1, refl, refl)
 
 pub shape_of-bytes-then-n-eq0 : goal.shape_of-bytes-then-n-eq0
-shape_of-bytes-then-n-eq0 c = c.read_run-run.auto.1.1.0 ∙ c.loop-run.invariant.3
+shape_of-bytes-then-n-eq0 c = c.read_run-run.auto.bytes ∙ c.loop-run.invariant.3
 
 pub shape_of-out-then-n-eq0 : goal.shape_of-out-then-n-eq0
 shape_of-out-then-n-eq0 c = c.loop-run.invariant.2
@@ -36,7 +36,7 @@ slice_bounds-list_run-end c =
     let run = c.read_run-run in
     let fit = (taken text c.requires.0).1 in
     let x = next_run text fit l.place l.bytes run.result _ run.ensures l.invariant.1 l.invariant.0.right c.if-n-eq0.false in
-    omega (arith, x.near, run.auto.1.1.0, l.invariant.1)
+    omega (arith, x.near, run.auto.bytes, l.invariant.1)
 
 pub slice_bounds-list_run-end-in-loop-run : goal.slice_bounds-list_run-end-in-loop-run
 slice_bounds-list_run-end-in-loop-run c =
@@ -60,10 +60,10 @@ list_run-done-requires c =
     (omega (arith, asks.0), asks.1, asks.2)
 
 pub shape_of-bytes-then-done-ne0 : goal.shape_of-bytes-then-done-ne0
-shape_of-bytes-then-done-ne0 c = c.read_run-run.auto.1.1.0 ∙ c.loop-run.invariant.3
+shape_of-bytes-then-done-ne0 c = c.read_run-run.auto.bytes ∙ c.loop-run.invariant.3
 
 pub shape_of-out-then-done-ne0 : goal.shape_of-out-then-done-ne0
-shape_of-out-then-done-ne0 c = c.list_run-done.auto.1.1.0 ∙ c.loop-run.invariant.2
+shape_of-out-then-done-ne0 c = c.list_run-done.auto.out ∙ c.loop-run.invariant.2
 
 pub returns-then-done-ne0 : goal.returns-then-done-ne0
 returns-then-done-ne0 c =
@@ -93,4 +93,4 @@ loop-run-preserved c =
     let run = c.read_run-run in
     let fit = (taken text c.requires.0).1 in
     let x = next_run text fit l.place l.bytes run.result _ run.ensures l.invariant.1 l.invariant.0.right c.if-n-eq0.false in
-    (walking_on l.invariant.0 x c.list_run-done.ensures c.if-done-ne0.false, omega (arith, run.auto.1.1.0, l.invariant.1), c.list_run-done.auto.1.1.0 ∙ l.invariant.2, run.auto.1.1.0 ∙ l.invariant.3)
+    (walking_on l.invariant.0 x c.list_run-done.ensures c.if-done-ne0.false, omega (arith, run.auto.bytes, l.invariant.1), c.list_run-done.auto.out ∙ l.invariant.2, run.auto.bytes ∙ l.invariant.3)

@@ -35,7 +35,7 @@ returns-then-not-s c =
     let e = passed.pass-s.ensures in
     let o =
     settle_stop _ _ _ _ _ _ _ (omega (arith, turn.loop-made-test.true)) e.answer e.table e.sizes _ _ c.answer.ensures (omega arith)
-    (not-true _ c.if-not-s.true)
+    c.if-not-s.true
     ∙ turn.loop-made.invariant.1 in
     (ap (λ (x : Outcome). x.answer) o, (ap (λ (x : Outcome). x.table) o, ap (λ (x : Outcome). x.sizes) o))
 
@@ -46,7 +46,7 @@ loop-made-preserved c =
     let inv = turn.loop-made.invariant in
     let e = passed.pass-s.ensures in (
       search rules,
-      settle_again _ _ _ _ _ _ _ (omega (arith, turn.loop-made-test.true)) e.answer e.table e.sizes (not-false _ c.if-not-s.false) ∙ inv.1,
+      settle_again _ _ _ _ _ _ _ (omega (arith, turn.loop-made-test.true)) e.answer e.table e.sizes c.if-not-s.false ∙ inv.1,
       passed.pass-s.auto.1.1.1.1.0 ∙ inv.2,
       passed.pass-s.auto.1.1.1.1.1.0 ∙ inv.3,
     )

@@ -5,14 +5,14 @@ use mathlib.Core.Bool.{false}
 use native.Mathlib.Omega.{arith}
 use Rattle.records.specs.Objects.{objects_of, faulty, too_far}
 use Rattle.records.proofs.Answers.{is_faulty, is_beyond, is_over, is_written, counts_right}
-use borrow.Author.Rules.{rules}
 use Rattle.records.proofs.answer.Goals as goal
+use Rattle.records.proofs.answer.Goals.{Else-is_faulty, Else-is_too_far}
 
 -- what the tests that were passed tell
-clean : (c : goal.Else-is_faulty) → let a = c.args in faulty a.objects.now a.values.now ≡ false
+clean : (c : Else-is_faulty) → let a = c.args in faulty a.objects.now a.values.now ≡ false
 clean c = sym c.is_faulty.ensures ∙ c.if-is_faulty.false
 
-near : (c : goal.Else-is_too_far) → let a = c.args in too_far (objects_of a.objects.now a.values.now) ≡ false
+near : (c : Else-is_too_far) → let a = c.args in too_far (objects_of a.objects.now a.values.now) ≡ false
 near c = sym c.is_too_far.ensures ∙ c.if-is_too_far.false
 
 pub returns-then-is_faulty : goal.returns-then-is_faulty

@@ -5,7 +5,6 @@ use native.Mathlib.Omega.{arith}
 use lib.ListN.{length}
 use Rattle.records.specs.declared.Written.{Written}
 use Rattle.records.proofs.Answers.{not_faulty, not_beyond, has_room, has_length, buffer_written, buffer_kept, counts_right}
-use borrow.Author.Rules.{rules}
 use Rattle.records.proofs.write_text.Goals as goal
 
 pub walk-requires : goal.walk-requires
@@ -21,7 +20,7 @@ walk-requires c =
     let ok = c.if-written-eq0.true in (
       counts_right os vs (not_faulty os vs room w is ok),
       not_beyond os vs room w is ok,
-      omega (arith, has_length os vs room w is ok, has_room os vs room w is ok, start.well-formed.1.1.0.1),
+      omega (arith, has_length os vs room w is ok, has_room os vs room w is ok),
     )
 
 pub returns-then-written-eq0 : goal.returns-then-written-eq0

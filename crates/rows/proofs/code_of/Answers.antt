@@ -7,7 +7,6 @@ use lib.Dec.{ltb}
 use Rattle.ground.proofs.Choices.{pick_true, pick_false, told}
 use Rattle.rows.specs.declared.Coded.TheVariants.{Unknown, Missing}
 use Rattle.rows.proofs.Quick.{code_found}
-use borrow.Author.Rules.{rules}
 use Rattle.rows.proofs.code_of.Goals as goal
 
 pub returns-in-Row : goal.returns-in-Row

@@ -2,7 +2,6 @@
 -- Assumes nothing.
 use native.Mathlib.Omega.{arith}
 use Rattle.rows.proofs.Bytes.{form_quick}
-use borrow.Author.Rules.{rules}
 use Rattle.rows.proofs.has_form.Goals as goal
 
 pub returns : goal.returns

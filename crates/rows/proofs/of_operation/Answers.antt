@@ -2,7 +2,6 @@
 -- Assumes nothing.
 use borrow.Author.Tests.{eq-eqb, ne_eqb}
 use Rattle.ground.specs.Choice.{pick}
-use borrow.Author.Rules.{rules}
 use Rattle.rows.proofs.of_operation.Goals as goal
 
 pub returns-then-row-operation : goal.returns-then-row-operation

@@ -5,7 +5,6 @@ use borrow.Author.Tests.{ne_eqb}
 use Rattle.ground.specs.Choice.{pick}
 use Rattle.rows.specs.Sheet.{table_of}
 use Rattle.rows.proofs.At.{nothing_at}
-use borrow.Author.Rules.{rules}
 use Rattle.rows.proofs.row_at.Goals as goal
 
 pub returns-then-page-eq0 : goal.returns-then-page-eq0

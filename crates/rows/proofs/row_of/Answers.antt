@@ -3,7 +3,6 @@
 use mathlib.Core.Path.{◌∙◌, sym}
 use native.Mathlib.Omega.{arith}
 use Rattle.rows.proofs.Quick.{row_found}
-use borrow.Author.Rules.{rules}
 use Rattle.rows.proofs.row_of.Goals as goal
 
 pub returns-in-Row : goal.returns-in-Row

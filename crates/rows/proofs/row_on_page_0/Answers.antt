@@ -7,7 +7,6 @@ use Rattle.rows.specs.Sheet.{page0}
 use Rattle.rows.proofs.At.{there, past, nothing_at}
 use Rattle.rows.proofs.Pages.{none_on_0}
 use Rattle.rows.proofs.Rest.{none_below}
-use borrow.Author.Rules.{rules}
 use Rattle.rows.proofs.row_on_page_0.Goals as goal
 
 pub returns-then-at-lt31 : goal.returns-then-at-lt31

@@ -7,7 +7,6 @@ use Rattle.rows.specs.Sheet.{page10}
 use Rattle.rows.proofs.At.{there, past, nothing_at}
 use Rattle.rows.proofs.Pages.{none_on_10}
 use Rattle.rows.proofs.Rest.{none_below}
-use borrow.Author.Rules.{rules}
 use Rattle.rows.proofs.row_on_page_10.Goals as goal
 
 pub returns-then-at-lt1 : goal.returns-then-at-lt1

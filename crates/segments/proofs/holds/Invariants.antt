@@ -1,11 +1,9 @@
 -- `segments::holds` meets its contract: what is asked of the starts that are left is always what was asked of all.
 -- Assumes nothing.
-use mathlib.Core.Path.{◌≡◌, ◌∙◌, sym}
+use mathlib.Core.Path.{◌≡◌}
 use Prim.Native.Nat.{◌≤◌, ◌-◌}
 use lib.ListN.{length, drop}
-use borrow.Author.Rules.{rules}
 use Rattle.segments.specs.Segments.{holds_of}
-use Rattle.segments.proofs.Laws.{holds_here, holds_skip, holds_end}
 use Rattle.segments.proofs.holds.Given as goal
 
 abbrev pub invariant-loop-i : goal.invariant-loop-i

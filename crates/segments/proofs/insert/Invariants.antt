@@ -1,12 +1,10 @@
 -- `segments::insert` meets its contract: the numbers passed, with the carried one put into those that are left, are always the same list.
 -- Assumes nothing.
-use mathlib.Core.Path.{◌≡◌, ◌∙◌}
+use mathlib.Core.Path.{◌≡◌}
 use Prim.Native.Nat.{◌≤◌, ◌-◌}
-use native.Mathlib.Omega.{arith}
-use lib.ListN.{length, take, length-set}
-use borrow.Author.Rules.{rules}
+use lib.ListN.{length, take}
 use Rattle.segments.specs.Segments.{inserted}
-use Rattle.segments.proofs.Laws.{to_put, put_more, put_end}
+use Rattle.segments.proofs.Laws.{to_put}
 use Rattle.segments.proofs.insert.Given as goal
 
 abbrev pub invariant-loop-i : goal.invariant-loop-i

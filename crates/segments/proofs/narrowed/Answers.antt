@@ -1,6 +1,5 @@
 -- `segments::narrowed` meets its contract: the test says on which side of the address the start lies.
 -- Assumes nothing.
-use borrow.Author.Rules.{rules}
 use borrow.Author.Tests.{le-leb, lt-leb}
 use Rattle.ground.proofs.Choices.{pick_true, pick_false}
 use Rattle.segments.specs.Steps.{narrowed_by}

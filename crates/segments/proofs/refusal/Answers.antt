@@ -1,7 +1,6 @@
 -- `segments::refusal` meets its contract: each return follows from the tests that led to it.
 -- Assumes nothing.
 use native.Mathlib.Omega.{arith}
-use borrow.Author.Rules.{rules}
 use borrow.Author.Tests.{le-leb, lt-leb}
 use Rattle.ground.proofs.Choices.{picks, told}
 use Rattle.segments.specs.Segments.{refusal_of}

@@ -1,9 +1,6 @@
 -- `segments::repeated` meets its contract: the places in use are the first `count`.
 -- Assumes nothing.
-use mathlib.Core.Path.{◌∙◌, sym, ap}
-use native.Mathlib.Omega.{arith}
-use lib.Seq.{length-take-le}
-use borrow.Author.Rules.{rules}
+use mathlib.Core.Path.{◌∙◌, ap}
 use Rattle.segments.specs.Segments.{holds_of}
 use Rattle.segments.proofs.Laws.{used}
 use Rattle.segments.proofs.repeated.Goals as goal

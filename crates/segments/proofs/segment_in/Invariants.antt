@@ -1,11 +1,10 @@
 -- `segments::segment_in` meets its contract: the segment found, cut off at the starts that are left, is always the same.
 -- Assumes nothing.
-use mathlib.Core.Path.{◌≡◌, ◌∙◌, sym}
+use mathlib.Core.Path.{◌≡◌}
 use Prim.Native.Nat.{◌≤◌, ◌-◌}
 use lib.ListN.{length, drop}
-use borrow.Author.Rules.{rules}
 use Rattle.segments.specs.Segments.{segment_in}
-use Rattle.segments.proofs.Laws.{onward, onward_first, onward_more, onward_end}
+use Rattle.segments.proofs.Laws.{onward}
 use Rattle.segments.proofs.segment_in.Given as goal
 
 abbrev pub invariant-loop-i : goal.invariant-loop-i

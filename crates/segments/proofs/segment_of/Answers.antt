@@ -3,7 +3,6 @@
 use mathlib.Core.Path.{◌∙◌, sym, ap}
 use native.Mathlib.Omega.{arith}
 use lib.Seq.{length-take-le}
-use borrow.Author.Rules.{rules}
 use Rattle.segments.specs.Segments.{segment_in, segment_of}
 use Rattle.segments.proofs.Laws.{used}
 use Rattle.segments.proofs.segment_of.Goals as goal

@@ -1,6 +1,5 @@
 -- `decoder::Kind::in_parts` meets its contract.
 -- Assumes nothing.
-use borrow.Author.Rules.{rules}
 use Rattle.decoder.proofs.Kind.in_parts.Goals as goal
 
 pub returns-in-None : goal.returns-in-None

@@ -1,6 +1,5 @@
 -- `decoder::front::behind_prefix` meets its contract.
 -- Assumes nothing.
-use borrow.Author.Rules.{rules}
 use lib.ListN.{drop_of_length-le}
 use Rattle.ground.proofs.Stores.{drop_next}
 use Rattle.decoder.proofs.front.behind_prefix.Goals as goal

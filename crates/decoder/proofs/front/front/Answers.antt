@@ -3,7 +3,6 @@
 use mathlib.Core.Path.{◌∙◌}
 use native.Mathlib.Omega.{arith}
 use Rattle.decoder.proofs.Heads.{front_cut, code_short, code_there, front_coded}
-use borrow.Author.Rules.{rules}
 use Rattle.decoder.proofs.front.front.Goals as goal
 
 pub overflow_add-at : goal.overflow_add-at

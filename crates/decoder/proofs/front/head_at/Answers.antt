@@ -1,6 +1,5 @@
 -- `decoder::front::head_at` meets its contract.
 -- Assumes nothing.
-use borrow.Author.Rules.{rules}
 use lib.ListN.{drop_of_length-le}
 use Rattle.ground.specs.Choice.{pick}
 use Rattle.ground.proofs.Stores.{drop_next}

@@ -1,7 +1,6 @@
 -- `decoder::front::number_size` meets its contract.
 -- Assumes nothing.
 use borrow.Author.Tests.{ne_eqb}
-use borrow.Author.Rules.{rules}
 use Rattle.ground.specs.Choice.{pick}
 use Rattle.rows.specs.Sizes.{number_at}
 use Rattle.decoder.proofs.front.number_size.Goals as goal

@@ -1,6 +1,5 @@
 -- `decoder::front::shift` meets its contract.
 -- Assumes nothing.
-use borrow.Author.Rules.{rules}
 use Rattle.decoder.specs.Origin.{shifted}
 use Rattle.decoder.proofs.front.shift.Goals as goal
 

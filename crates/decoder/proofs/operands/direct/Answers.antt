@@ -1,6 +1,5 @@
 -- `decoder::operands::direct` meets its contract.
 -- Assumes nothing.
-use borrow.Author.Rules.{rules}
 use Rattle.decoder.specs.Origin.{direct_of}
 use Rattle.decoder.proofs.operands.direct.Goals as goal
 

@@ -3,7 +3,6 @@
 use Rattle.values.specs.declared.Value.{Value}
 use mathlib.Core.Path.{ap}
 use borrow.Author.Tests.{eq-eqb, ne_eqb}
-use borrow.Author.Rules.{rules}
 use Rattle.decoder.specs.Operands.{distance_of}
 use Rattle.ground.specs.Choice.{pick}
 use Rattle.values.specs.Widths.{bits_of, sign_extended_of}

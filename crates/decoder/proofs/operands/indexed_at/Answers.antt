@@ -3,8 +3,7 @@
 use mathlib.Core.Path.{◌∙◌, sym, ap}
 use mathlib.Core.Bool.{false}
 use native.Mathlib.Omega.{arith}
-use borrow.Author.Tests.{not-true, not-false, lt-ltb, le-ltb, eq-eqb, ne_eqb}
-use borrow.Author.Rules.{rules}
+use borrow.Author.Tests.{lt-ltb, le-ltb, eq-eqb, ne_eqb}
 use Rattle.postbytes.proofs.Told.{lacking_undefined}
 use Rattle.decoder.specs.Meaning.{unread}
 use Rattle.decoder.specs.Operands.{indexed_as, indexed_at}
@@ -21,7 +20,7 @@ pub returns-then-not-is_defined : goal.returns-then-not-is_defined
 unfolding indexed_at indexed_as pick
 returns-then-not-is_defined c =
     let shape = c.shape_of-shape.result in
-    let lacks = not-true c.is_defined.result c.if-not-is_defined.true in
+    let lacks = c.if-not-is_defined.true in
     rw (
       ne_eqb _ _ c.if-rest-eq0.false,
       ← c.shape_of-shape.ensures,
@@ -38,7 +37,7 @@ returns-then-rest-size c = rw (
   ne_eqb _ _ c.if-rest-eq0.false,
   ← c.shape_of-shape.ensures,
   ← c.is_defined.ensures,
-  not-false c.is_defined.result c.if-not-is_defined.false,
+  c.if-not-is_defined.false,
   ← c.extra_of-size.ensures,
   lt-ltb _ _ c.if-rest-size.true,
 ) c.refused-then-rest-size.ensures
@@ -49,7 +48,7 @@ returns c = rw (
   ne_eqb _ _ c.if-rest-eq0.false,
   ← c.shape_of-shape.ensures,
   ← c.is_defined.ensures,
-  not-false c.is_defined.result c.if-not-is_defined.false,
+  c.if-not-is_defined.false,
   ← c.extra_of-size.ensures,
   le-ltb _ _ c.if-rest-size.false,
 ) (cc)

@@ -3,7 +3,6 @@
 use mathlib.Core.Path.{ap}
 use mathlib.Core.Bool.{Bool, ◌&&◌}
 use lib.Dec.{eqb}
-use borrow.Author.Rules.{rules}
 use Rattle.rows.specs.Forms as forms
 use Rattle.decoder.specs.Origin.{unseen}
 use Rattle.decoder.proofs.operands.is_unseen.Goals as goal

@@ -1,7 +1,6 @@
 -- `decoder::operands::number` meets its contract.
 -- Assumes nothing.
 use borrow.Author.Tests.{ne_eqb}
-use borrow.Author.Rules.{rules}
 use Rattle.decoder.specs.Operands.{number_of}
 use Rattle.ground.specs.Choice.{pick}
 use Rattle.decoder.proofs.operands.number.Goals as goal

@@ -3,7 +3,6 @@
 use Rattle.decoder.specs.declared.Kind.TheVariants.{Branch}
 use mathlib.Core.Path.{◌≡◌, ◌∙◌, ap}
 use borrow.Author.Tests.{ne_eqb}
-use borrow.Author.Rules.{rules}
 use Rattle.decoder.specs.Operands.{numbered_of}
 use Rattle.decoder.specs.Origin.{shifted, target_of}
 use Rattle.ground.specs.Choice.{pick}

@@ -1,7 +1,6 @@
 -- `decoder::operands::numbered_at` meets its contract.
 -- Assumes nothing.
 use borrow.Author.Tests.{lt-ltb, le-ltb}
-use borrow.Author.Rules.{rules}
 use Rattle.decoder.specs.Operands.{numbered_at}
 use Rattle.ground.specs.Choice.{pick}
 use Rattle.decoder.proofs.operands.numbered_at.Goals as goal

@@ -1,7 +1,6 @@
 -- `decoder::operands::operand` meets its contract.
 -- Assumes nothing.
 use borrow.Author.Tests.{ne_eqb}
-use borrow.Author.Rules.{rules}
 use Rattle.decoder.specs.Operands.{operand_of}
 use Rattle.ground.specs.Choice.{pick}
 use Rattle.decoder.proofs.operands.operand.Goals as goal

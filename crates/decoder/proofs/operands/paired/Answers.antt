@@ -1,6 +1,5 @@
 -- `decoder::operands::paired` meets its contract.
 -- Assumes nothing.
-use borrow.Author.Rules.{rules}
 use Rattle.decoder.proofs.operands.paired.Goals as goal
 
 pub returns-in-Is : goal.returns-in-Is

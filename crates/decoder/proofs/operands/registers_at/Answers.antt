@@ -1,7 +1,6 @@
 -- `decoder::operands::registers_at` meets its contract.
 -- Assumes nothing.
 use borrow.Author.Tests.{eq-eqb, ne_eqb}
-use borrow.Author.Rules.{rules}
 use Rattle.decoder.specs.Operands.{registers_at}
 use Rattle.ground.specs.Choice.{pick}
 use Rattle.decoder.proofs.operands.registers_at.Goals as goal

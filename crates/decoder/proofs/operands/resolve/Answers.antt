@@ -1,6 +1,5 @@
 -- `decoder::operands::resolve` meets its contract.
 -- Assumes nothing.
-use borrow.Author.Rules.{rules}
 use Rattle.decoder.proofs.operands.resolve.Goals as goal
 
 pub returns-in-Offset : goal.returns-in-Offset

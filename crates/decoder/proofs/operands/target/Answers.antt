@@ -1,6 +1,5 @@
 -- `decoder::operands::target` meets its contract.
 -- Assumes nothing.
-use borrow.Author.Rules.{rules}
 use Rattle.decoder.specs.Origin.{shifted, target_of}
 use Rattle.decoder.proofs.operands.target.Goals as goal
 

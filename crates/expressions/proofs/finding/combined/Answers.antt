@@ -1,6 +1,5 @@
 -- `expressions::finding::combined` meets its contract: the test says whether a part was refused.
 -- Assumes nothing.
-use borrow.Author.Rules.{rules}
 use borrow.Author.Tests.{eq-eqb, ne_eqb}
 use Rattle.ground.specs.Choice.{pick}
 use Rattle.expressions.specs.Finding.{joined}

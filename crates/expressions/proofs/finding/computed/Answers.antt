@@ -16,4 +16,4 @@ returns-in-6 c = rw c.in-6.is c.mul.ensures
 
 pub returns-in_default : goal.returns-in_default
 unfolding operation_of pick
-returns-in_default c = simp (ne_eqb _ _ c.in_default.in_default-own.rest.0.1, ne_eqb _ _ c.in_default.in_default-own.rest.1) c.sub.ensures
+returns-in_default c = simp (ne_eqb c.args.kind 4 (search rules), ne_eqb c.args.kind 6 (search rules)) c.sub.ensures

@@ -1,6 +1,5 @@
 -- `expressions::finding::label_row` meets its contract: the test says whether there can be such a label.
 -- Assumes nothing.
-use borrow.Author.Rules.{rules}
 use borrow.Author.Tests.{lt-ltb, le-ltb}
 use Rattle.ground.proofs.Choices.{pick_true, pick_false}
 use Rattle.expressions.specs.Finding.{label_row}

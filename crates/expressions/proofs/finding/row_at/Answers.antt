@@ -1,6 +1,5 @@
 -- `expressions::finding::row_at` meets its contract: the test says whether the row is there.
 -- Assumes nothing.
-use borrow.Author.Rules.{rules}
 use borrow.Author.Tests.{lt-ltb, le-ltb}
 use Rattle.ground.proofs.Choices.{pick_true, pick_false}
 use Rattle.expressions.specs.Finding.{row_at}

@@ -3,7 +3,6 @@
 use mathlib.Core.Path.{◌∙◌, sym}
 use native.Mathlib.Nat.{le_of_lt}
 use lib.Seq.{length-take-le}
-use borrow.Author.Rules.{rules}
 use Rattle.expressions.specs.Moving.{moved_table}
 use Rattle.expressions.proofs.Moves.{all_rows}
 use Rattle.expressions.proofs.moving.move_labels.Goals as goal

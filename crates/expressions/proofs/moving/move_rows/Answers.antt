@@ -1,12 +1,9 @@
 -- `expressions::moving::move_rows` meets its contract: the rows passed, and then what moving makes of the rest, are always the same list.
 -- Assumes nothing.
-use borrow.Author.Rules.{rules}
-use mathlib.Core.Path.{◌≡◌, ◌∙◌, sym}
-use Prim.Native.Nat.{◌≤◌, ◌-◌}
+use mathlib.Core.Path.{◌∙◌, sym}
 use native.Mathlib.Omega.{arith}
-use lib.ListN.{length, length-set}
-use Rattle.expressions.specs.Moving.{moved_rows}
-use Rattle.expressions.proofs.Moves.{to_do, more, done}
+use lib.ListN.{length-set}
+use Rattle.expressions.proofs.Moves.{more, done}
 use Rattle.expressions.proofs.moving.move_rows.Goals as goal
 
 pub loop-at-smaller : goal.loop-at-smaller

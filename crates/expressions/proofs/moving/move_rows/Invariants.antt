@@ -1,12 +1,10 @@
 -- `expressions::moving::move_rows` meets its contract: the rows passed, and then what moving makes of the rest, are always the same list.
 -- Assumes nothing.
-use borrow.Author.Rules.{rules}
-use mathlib.Core.Path.{◌≡◌, ◌∙◌, sym}
+use mathlib.Core.Path.{◌≡◌}
 use Prim.Native.Nat.{◌≤◌, ◌-◌}
-use native.Mathlib.Omega.{arith}
-use lib.ListN.{length, length-set}
+use lib.ListN.{length}
 use Rattle.expressions.specs.Moving.{moved_rows}
-use Rattle.expressions.proofs.Moves.{to_do, more, done}
+use Rattle.expressions.proofs.Moves.{to_do}
 use Rattle.expressions.proofs.moving.move_rows.Given as goal
 
 abbrev pub invariant-loop-at : goal.invariant-loop-at

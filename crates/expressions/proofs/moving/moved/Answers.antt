@@ -1,6 +1,5 @@
 -- `expressions::moving::moved` meets its contract: the test is the definition's.
 -- Assumes nothing.
-use borrow.Author.Rules.{rules}
 use Rattle.ground.specs.Choice.{pick}
 use Rattle.expressions.specs.Moving.{moved_to}
 use Rattle.expressions.proofs.moving.moved.Goals as goal

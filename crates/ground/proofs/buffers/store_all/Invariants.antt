@@ -1,13 +1,9 @@
 -- `ground::buffers::store_all` meets its contract. What is left of the bytes, stored after those that are, is the whole.
 -- Assumes nothing.
-use mathlib.Core.Path.{◌≡◌, refl, sym, ap, ◌∙◌}
-use mathlib.Core.List.{List}
-use Prim.Native.Nat.{ℕ, ◌+◌, ◌-◌, ◌≤◌}
-use native.Mathlib.Nat.{add-zero}
-use native.Mathlib.Omega.{arith}
-use lib.ListN.{length, drop, length-set}
+use mathlib.Core.Path.{◌≡◌}
+use Prim.Native.Nat.{◌+◌, ◌-◌, ◌≤◌}
+use lib.ListN.{length, drop}
 use Rattle.ground.specs.Stores.{put}
-use Rattle.ground.proofs.Stores.{put_next, put_end, put_past}
 use Rattle.ground.proofs.buffers.store_all.Given as goal
 
 abbrev pub invariant-loop-i : goal.invariant-loop-i

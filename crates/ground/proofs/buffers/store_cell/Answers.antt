@@ -3,7 +3,6 @@
 use mathlib.Core.Path.{sym}
 use native.Mathlib.Omega.{arith}
 use lib.Seq.{set_out}
-use borrow.Author.Rules.{rules}
 use Rattle.ground.proofs.buffers.store_cell.Goals as goal
 
 pub returns-else-at-table : goal.returns-else-at-table

@@ -1,7 +1,6 @@
 -- `instruction::Instruction::build` meets its contract.
 -- Assumes nothing.
 use mathlib.Core.Path.{ap, ◌∙◌}
-use borrow.Author.Rules.{rules}
 use Rattle.instruction.specs.Quick.{with_outcome}
 use Rattle.instruction.proofs.Quick.{with_outcome_lem}
 use Rattle.instruction.proofs.Instruction.build.Goals as goal

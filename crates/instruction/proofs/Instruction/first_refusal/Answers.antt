@@ -1,7 +1,5 @@
 -- `instruction::Instruction::first_refusal` meets its contract: where nothing is wrong the code has told 1 and 2, else they are asked in 01's order.
 -- Assumes nothing.
-use borrow.Author.Rules.{rules}
-use borrow.Author.Tests.{not-true, not-false}
 use Rattle.ground.specs.Choice.{pick}
 use Rattle.instruction.specs.Building.{early_of}
 use Rattle.instruction.specs.Quick.{misses, first_refusal}
@@ -18,24 +16,24 @@ pub returns-then-unsound : goal.returns-then-unsound
 unfolding first_refusal early_of pick
 returns-then-unsound c =
     let s = c.is_sound-unsound in
-    rw (← s.ensures, not-true s.result c.if-unsound.true)
+    rw (← s.ensures, c.if-unsound.true)
 
 pub returns-then-is_lacking : goal.returns-then-is_lacking
 unfolding first_refusal early_of pick
 returns-then-is_lacking c =
     let s = c.is_sound-unsound in
-    rw (← s.ensures, not-false s.result c.if-unsound.false, ← c.is_lacking.ensures, c.if-is_lacking.true)
+    rw (← s.ensures, c.if-unsound.false, ← c.is_lacking.ensures, c.if-is_lacking.true)
 
 pub returns-then-is_missing : goal.returns-then-is_missing
 unfolding first_refusal early_of misses pick
 returns-then-is_missing c =
     let lacked = c in
     let s = lacked.is_sound-unsound in
-    rw (← s.ensures, not-false s.result lacked.if-unsound.false, ← lacked.is_lacking.ensures, lacked.if-is_lacking.false, ← c.is_missing.ensures, c.if-is_missing.true)
+    rw (← s.ensures, lacked.if-unsound.false, ← lacked.is_lacking.ensures, lacked.if-is_lacking.false, ← c.is_missing.ensures, c.if-is_missing.true)
 
 pub returns : goal.returns
 unfolding first_refusal early_of misses pick
 returns c =
     let lacked = c in
     let s = lacked.is_sound-unsound in
-    rw (← s.ensures, not-false s.result lacked.if-unsound.false, ← lacked.is_lacking.ensures, lacked.if-is_lacking.false, ← c.is_missing.ensures, c.if-is_missing.false)
+    rw (← s.ensures, lacked.if-unsound.false, ← lacked.is_lacking.ensures, lacked.if-is_lacking.false, ← c.is_missing.ensures, c.if-is_missing.false)

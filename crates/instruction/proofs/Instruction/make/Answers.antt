@@ -1,7 +1,6 @@
 -- `instruction::Instruction::make` meets its contract.
 -- Assumes nothing.
 use mathlib.Core.Path.{◌≡◌, sym, ap, ◌∙◌}
-use borrow.Author.Rules.{rules}
 use Rattle.ground.specs.Choice.{pick}
 use Rattle.instruction.specs.Building.{unmade, instruction_of, made_as, make_of}
 use Rattle.instruction.proofs.Ready.{made}

@@ -1,6 +1,5 @@
 -- `instruction::Operand::refusal` meets its contract.
 -- Assumes nothing.
-use borrow.Author.Rules.{rules}
 use Rattle.ground.specs.Choice.{pick}
 use Rattle.instruction.specs.Building.{operand_refusal}
 use Rattle.instruction.proofs.Operand.refusal.Goals as goal

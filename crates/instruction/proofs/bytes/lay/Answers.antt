@@ -1,6 +1,5 @@
 -- `instruction::bytes::lay` meets its contract.
 -- Assumes nothing.
-use borrow.Author.Rules.{rules}
 use Rattle.instruction.specs.Bytes.{laid_at}
 use Rattle.instruction.proofs.Padded.{operand_short}
 use Rattle.instruction.proofs.bytes.lay.Goals as goal

@@ -1,6 +1,5 @@
 -- `instruction::bytes::number` meets its contract.
 -- Assumes nothing.
-use borrow.Author.Rules.{rules}
 use borrow.Author.Tests.{ne_eqb}
 use Rattle.ground.specs.Choice.{pick}
 use Rattle.instruction.specs.Bytes.{number_bytes}

@@ -1,6 +1,5 @@
 -- `instruction::bytes::operand` meets its contract.
 -- Assumes nothing.
-use borrow.Author.Rules.{rules}
 use Rattle.instruction.specs.Bytes.{operand_bytes}
 use Rattle.instruction.proofs.bytes.operand.Goals as goal
 

@@ -1,6 +1,5 @@
 -- `instruction::choosing::accumulator_index` meets its contract.
 -- Assumes nothing.
-use borrow.Author.Rules.{rules}
 use Rattle.ground.specs.Choice.{pick}
 use Rattle.instruction.specs.Choosing.{accumulator_index}
 use Rattle.instruction.proofs.choosing.accumulator_index.Goals as goal

@@ -1,6 +1,5 @@
 -- `instruction::choosing::address` meets its contract.
 -- Assumes nothing.
-use borrow.Author.Rules.{rules}
 use borrow.Author.Tests.{eq-eqb, ne_eqb}
 use Rattle.ground.specs.Choice.{pick}
 use Rattle.instruction.specs.Choosing.{address_of}

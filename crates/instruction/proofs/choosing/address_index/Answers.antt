@@ -1,6 +1,5 @@
 -- `instruction::choosing::address_index` meets its contract.
 -- Assumes nothing.
-use borrow.Author.Rules.{rules}
 use Rattle.instruction.specs.Choosing.{address_index}
 use Rattle.instruction.proofs.choosing.address_index.Goals as goal
 

@@ -1,6 +1,5 @@
 -- `instruction::choosing::anew` meets its contract.
 -- Assumes nothing.
-use borrow.Author.Rules.{rules}
 use Rattle.ground.specs.Choice.{pick}
 use Rattle.instruction.specs.Choosing.{anew_of}
 use Rattle.instruction.proofs.choosing.anew.Goals as goal

@@ -1,6 +1,5 @@
 -- `instruction::choosing::immediate` meets its contract.
 -- Assumes nothing.
-use borrow.Author.Rules.{rules}
 use Rattle.ground.specs.Choice.{pick}
 use Rattle.instruction.specs.Choosing.{immediate_of}
 use Rattle.instruction.proofs.choosing.immediate.Goals as goal

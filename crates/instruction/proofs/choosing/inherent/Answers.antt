@@ -1,6 +1,5 @@
 -- `instruction::choosing::inherent` meets its contract.
 -- Assumes nothing.
-use borrow.Author.Rules.{rules}
 use Rattle.ground.specs.Choice.{pick}
 use Rattle.instruction.specs.Choosing.{inherent_of}
 use Rattle.instruction.proofs.choosing.inherent.Goals as goal

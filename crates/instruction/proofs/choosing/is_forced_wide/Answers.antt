@@ -1,6 +1,5 @@
 -- `instruction::choosing::is_forced_wide` meets its contract.
 -- Assumes nothing.
-use borrow.Author.Rules.{rules}
 use Rattle.instruction.specs.Choosing.{forced_wide}
 use Rattle.instruction.proofs.choosing.is_forced_wide.Goals as goal
 

@@ -1,6 +1,5 @@
 -- `instruction::choosing::leave_direct` meets its contract.
 -- Assumes nothing.
-use borrow.Author.Rules.{rules}
 use Rattle.ground.specs.Choice.{pick}
 use Rattle.instruction.specs.Choosing.{leaves_direct}
 use Rattle.instruction.proofs.choosing.leave_direct.Goals as goal

@@ -1,6 +1,5 @@
 -- `instruction::choosing::listed` meets its contract.
 -- Assumes nothing.
-use borrow.Author.Rules.{rules}
 use Rattle.ground.specs.Choice.{pick}
 use Rattle.instruction.specs.Choosing.{listed_of}
 use Rattle.instruction.proofs.choosing.listed.Goals as goal

@@ -1,6 +1,5 @@
 -- `instruction::choosing::long_branch` meets its contract.
 -- Assumes nothing.
-use borrow.Author.Rules.{rules}
 use Rattle.instruction.specs.Choosing.{long_branch}
 use Rattle.instruction.proofs.choosing.long_branch.Goals as goal
 

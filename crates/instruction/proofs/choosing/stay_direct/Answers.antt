@@ -1,6 +1,5 @@
 -- `instruction::choosing::stay_direct` meets its contract.
 -- Assumes nothing.
-use borrow.Author.Rules.{rules}
 use Rattle.ground.specs.Choice.{pick}
 use Rattle.instruction.specs.Choosing.{stays_direct}
 use Rattle.instruction.proofs.choosing.stay_direct.Goals as goal

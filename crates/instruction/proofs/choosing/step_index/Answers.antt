@@ -1,6 +1,5 @@
 -- `instruction::choosing::step_index` meets its contract.
 -- Assumes nothing.
-use borrow.Author.Rules.{rules}
 use Rattle.ground.specs.Choice.{pick}
 use Rattle.instruction.specs.Choosing.{step_index}
 use Rattle.instruction.proofs.choosing.step_index.Goals as goal

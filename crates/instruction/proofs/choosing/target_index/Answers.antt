@@ -1,6 +1,5 @@
 -- `instruction::choosing::target_index` meets its contract.
 -- Assumes nothing.
-use borrow.Author.Rules.{rules}
 use Rattle.ground.specs.Choice.{pick}
 use Rattle.instruction.specs.Choosing.{target_index}
 use Rattle.instruction.proofs.choosing.target_index.Goals as goal

@@ -1,6 +1,5 @@
 -- `instruction::forms::becomes_direct` meets its contract.
 -- Assumes nothing.
-use borrow.Author.Rules.{rules}
 use Rattle.instruction.specs.Forms.{becomes_direct}
 use Rattle.instruction.proofs.forms.becomes_direct.Goals as goal
 

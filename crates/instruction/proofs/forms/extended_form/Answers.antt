@@ -1,7 +1,6 @@
 -- `instruction::forms::extended_form` meets its contract.
 -- Assumes nothing.
 use mathlib.Core.Path.{sym}
-use borrow.Author.Rules.{rules}
 use Rattle.ground.specs.Choice.{pick}
 use Rattle.ground.proofs.Choices.{pick_false}
 use Rattle.instruction.specs.Forms.{extended_form}

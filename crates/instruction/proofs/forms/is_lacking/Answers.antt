@@ -1,6 +1,5 @@
 -- `instruction::forms::is_lacking` meets its contract.
 -- Assumes nothing.
-use borrow.Author.Rules.{rules}
 use Rattle.instruction.specs.Forms.{lacks}
 use Rattle.instruction.proofs.forms.is_lacking.Goals as goal
 

@@ -1,6 +1,5 @@
 -- `instruction::forms::register_form` meets its contract.
 -- Assumes nothing.
-use borrow.Author.Rules.{rules}
 use Rattle.ground.specs.Choice.{pick}
 use Rattle.instruction.specs.Forms.{register_form}
 use Rattle.instruction.proofs.forms.register_form.Goals as goal

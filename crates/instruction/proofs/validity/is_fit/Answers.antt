@@ -1,6 +1,5 @@
 -- `instruction::validity::is_fit` meets its contract.
 -- Assumes nothing.
-use borrow.Author.Rules.{rules}
 use Rattle.instruction.specs.Quick.{fit}
 use Rattle.instruction.proofs.validity.is_fit.Goals as goal
 

@@ -2,7 +2,6 @@
 -- Assumes nothing.
 use mathlib.Core.Path.{◌∙◌, ap, sym}
 use mathlib.Core.Bool.{Bool, not, ◌||◌}
-use borrow.Author.Rules.{rules}
 use Rattle.instruction.specs.Records.{lawful}
 use Rattle.instruction.specs.Quick.{matched}
 use Rattle.instruction.proofs.validity.is_lawful.Goals as goal

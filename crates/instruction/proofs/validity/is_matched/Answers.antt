@@ -4,7 +4,6 @@ use mathlib.Core.Path.{◌≡◌}
 use Prim.Native.Nat.{◌%◌}
 use native.Mathlib.Omega.{arith}
 use lib.Dec.{eqb}
-use borrow.Author.Rules.{rules}
 use borrow.Author.Tests.{eqb-true, lt-ltb}
 use Rattle.ground.specs.Choice.{pick}
 use Rattle.ground.proofs.Tests.{both_first, both_second}

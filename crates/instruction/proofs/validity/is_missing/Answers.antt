@@ -1,6 +1,5 @@
 -- `instruction::validity::is_missing` meets its contract.
 -- Assumes nothing.
-use borrow.Author.Rules.{rules}
 use Rattle.instruction.specs.Quick.{misses}
 use Rattle.instruction.proofs.validity.is_missing.Goals as goal
 

@@ -1,6 +1,5 @@
 -- `instruction::validity::is_recognised` meets its contract.
 -- Assumes nothing.
-use borrow.Author.Rules.{rules}
 use Rattle.instruction.specs.Records.{recognised}
 use Rattle.instruction.specs.Quick.{regular}
 use Rattle.instruction.proofs.validity.is_recognised.Goals as goal

@@ -1,6 +1,5 @@
 -- `instruction::validity::is_regular` meets its contract.
 -- Assumes nothing.
-use borrow.Author.Rules.{rules}
 use Rattle.instruction.specs.Quick.{regular}
 use Rattle.instruction.proofs.validity.is_regular.Goals as goal
 

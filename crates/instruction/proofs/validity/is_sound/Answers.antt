@@ -1,6 +1,5 @@
 -- `instruction::validity::is_sound` meets its contract.
 -- Assumes nothing.
-use borrow.Author.Rules.{rules}
 use Rattle.instruction.specs.Records.{sound}
 use Rattle.instruction.proofs.validity.is_sound.Goals as goal
 

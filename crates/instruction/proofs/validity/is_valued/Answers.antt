@@ -1,7 +1,6 @@
 -- `instruction::validity::is_valued` meets its contract.
 -- Assumes nothing.
 use mathlib.Core.Path.{◌∙◌, sym}
-use borrow.Author.Rules.{rules}
 use Rattle.ground.specs.Choice.{pick}
 use Rattle.ground.proofs.Choices.{pick_true}
 use Rattle.instruction.specs.Quick.{valued}

@@ -5,7 +5,6 @@ use native.Mathlib.Omega.{arith}
 use Rattle.postbytes.specs.Registers.{not_indexing, not_accumulator}
 use Rattle.ground.proofs.Tests.{neither_left}
 use Rattle.postbytes.specs.Writing.{accumulator_of}
-use borrow.Author.Rules.{rules}
 use Rattle.postbytes.proofs.encoding.accumulator.Goals as goal
 
 pub returns-then-strange : goal.returns-then-strange

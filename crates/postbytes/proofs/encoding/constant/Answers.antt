@@ -4,7 +4,6 @@ use Rattle.ground.specs.Choice.{pick}
 use mathlib.Core.Path.{sym, ◌∙◌}
 use borrow.Author.Tests.{eq-eqb, ne_eqb}
 use Rattle.postbytes.specs.Writing.{constant_of}
-use borrow.Author.Rules.{rules}
 use Rattle.postbytes.proofs.encoding.constant.Goals as goal
 
 pub returns-then-n-eq0 : goal.returns-then-n-eq0

@@ -2,7 +2,6 @@
 -- Assumes nothing.
 use Rattle.ground.specs.Choice.{pick}
 use Rattle.postbytes.specs.Writing.{counter_of}
-use borrow.Author.Rules.{rules}
 use Rattle.postbytes.proofs.encoding.counter.Goals as goal
 
 pub returns-then-strange : goal.returns-then-strange

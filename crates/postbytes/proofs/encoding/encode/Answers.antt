@@ -1,6 +1,5 @@
 -- `postbytes::encoding::encode` meets its contract.
 -- Assumes nothing.
-use borrow.Author.Rules.{rules}
 use Rattle.postbytes.proofs.encoding.encode.Goals as goal
 
 pub returns-in-Offset : goal.returns-in-Offset

@@ -2,7 +2,6 @@
 -- Assumes nothing.
 use Rattle.ground.specs.Choice.{pick}
 use Rattle.postbytes.specs.Writing.{marked}
-use borrow.Author.Rules.{rules}
 use Rattle.postbytes.proofs.encoding.marked.Goals as goal
 
 pub returns-then-indirect : goal.returns-then-indirect

@@ -2,7 +2,6 @@
 -- Assumes nothing.
 use Rattle.ground.specs.Choice.{pick}
 use Rattle.postbytes.specs.Writing.{relative_of}
-use borrow.Author.Rules.{rules}
 use Rattle.postbytes.proofs.encoding.relative.Goals as goal
 
 pub returns-then-near : goal.returns-then-near

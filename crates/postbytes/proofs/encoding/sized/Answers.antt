@@ -3,7 +3,6 @@
 use Rattle.ground.specs.Choice.{pick}
 use borrow.Author.Tests.{eq-eqb, ne_eqb}
 use Rattle.postbytes.specs.Writing.{sized_of}
-use borrow.Author.Rules.{rules}
 use Rattle.postbytes.proofs.encoding.sized.Goals as goal
 
 pub returns-then-width-eq8 : goal.returns-then-width-eq8

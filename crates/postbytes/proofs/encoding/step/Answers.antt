@@ -6,7 +6,6 @@ use Rattle.postbytes.specs.Registers.{unknown_register, unknown_step}
 use Rattle.ground.proofs.Tests.{neither_right}
 use Rattle.postbytes.proofs.Tests.{known_step}
 use Rattle.postbytes.specs.Writing.{step_of}
-use borrow.Author.Rules.{rules}
 use Rattle.postbytes.proofs.encoding.step.Goals as goal
 
 pub returns-then-strange : goal.returns-then-strange

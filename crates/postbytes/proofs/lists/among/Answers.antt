@@ -1,12 +1,8 @@
 -- `postbytes::lists::among` meets its contract. There are no more than eight registers to be taken.
 -- Assumes nothing.
 use mathlib.Core.Path.{sym, ap, ◌∙◌}
-use mathlib.Core.List.{List}
-use Prim.Native.Nat.{ℕ}
 use native.Mathlib.Omega.{arith}
-use lib.ListN.{take}
 use lib.Seq.{take_all}
-use borrow.Author.Rules.{rules}
 use Rattle.postbytes.specs.Lists.{among}
 use Rattle.postbytes.proofs.lists.among.Goals as goal
 

@@ -1,11 +1,10 @@
 -- `postbytes::lists::among_few` meets its contract. The loop's invariant: the test of what is left of the list is the test of the whole list.
 -- Assumes nothing.
-use mathlib.Core.Path.{◌≡◌, refl, sym, ◌∙◌}
-use Prim.Native.Nat.{◌-◌, ◌≤◌}
+use mathlib.Core.Path.{refl, sym, ◌∙◌}
+use Prim.Native.Nat.{◌≤◌}
 use native.Mathlib.Omega.{arith}
-use lib.ListN.{length, take, drop}
-use Rattle.postbytes.specs.Lists.{any_of, covers, among}
-use borrow.Author.Rules.{rules}
+use lib.ListN.{length}
+use Rattle.postbytes.specs.Lists.{covers, among}
 use Rattle.postbytes.proofs.Named.{hit, miss, ended}
 use Rattle.postbytes.proofs.lists.among_few.Goals as goal
 

@@ -1,12 +1,9 @@
 -- `postbytes::lists::among_few` meets its contract. The loop's invariant: the test of what is left of the list is the test of the whole list.
 -- Assumes nothing.
-use mathlib.Core.Path.{◌≡◌, refl, sym, ◌∙◌}
+use mathlib.Core.Path.{◌≡◌}
 use Prim.Native.Nat.{◌-◌, ◌≤◌}
-use native.Mathlib.Omega.{arith}
-use lib.ListN.{length, take, drop}
-use Rattle.postbytes.specs.Lists.{any_of, covers, among}
-use borrow.Author.Rules.{rules}
-use Rattle.postbytes.proofs.Named.{hit, miss, ended}
+use lib.ListN.{take, drop}
+use Rattle.postbytes.specs.Lists.{any_of, covers}
 use Rattle.postbytes.proofs.lists.among_few.Given as goal
 
 abbrev pub invariant-loop-i : goal.invariant-loop-i

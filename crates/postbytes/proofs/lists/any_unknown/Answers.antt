@@ -1,13 +1,12 @@
 -- `postbytes::lists::any_unknown` meets its contract. The loop's invariant: the test of what is left of the list is the test of the whole list.
 -- Assumes nothing.
-use mathlib.Core.Path.{◌≡◌, refl, sym, ◌∙◌}
-use Prim.Native.Nat.{◌-◌, ◌≤◌}
+use mathlib.Core.Path.{refl, sym, ◌∙◌}
+use Prim.Native.Nat.{◌≤◌}
 use native.Mathlib.Omega.{arith}
-use lib.ListN.{length, take, drop}
+use lib.ListN.{length}
 use borrow.Author.Tests.{le-leb, lt-leb}
 use Rattle.postbytes.specs.Registers.{unknown_register}
-use Rattle.postbytes.specs.Lists.{any_of, any_unknown}
-use borrow.Author.Rules.{rules}
+use Rattle.postbytes.specs.Lists.{any_unknown}
 use Rattle.postbytes.proofs.Named.{hit, miss, ended}
 use Rattle.postbytes.proofs.lists.any_unknown.Goals as goal
 

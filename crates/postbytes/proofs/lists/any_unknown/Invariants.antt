@@ -1,14 +1,10 @@
 -- `postbytes::lists::any_unknown` meets its contract. The loop's invariant: the test of what is left of the list is the test of the whole list.
 -- Assumes nothing.
-use mathlib.Core.Path.{◌≡◌, refl, sym, ◌∙◌}
+use mathlib.Core.Path.{◌≡◌}
 use Prim.Native.Nat.{◌-◌, ◌≤◌}
-use native.Mathlib.Omega.{arith}
-use lib.ListN.{length, take, drop}
-use borrow.Author.Tests.{le-leb, lt-leb}
+use lib.ListN.{take, drop}
 use Rattle.postbytes.specs.Registers.{unknown_register}
-use Rattle.postbytes.specs.Lists.{any_of, any_unknown}
-use borrow.Author.Rules.{rules}
-use Rattle.postbytes.proofs.Named.{hit, miss, ended}
+use Rattle.postbytes.specs.Lists.{any_of}
 use Rattle.postbytes.proofs.lists.any_unknown.Given as goal
 
 abbrev pub invariant-loop-i : goal.invariant-loop-i

@@ -1,6 +1,5 @@
 -- `postbytes::lists::boxes` meets its contract.
 -- Assumes nothing.
-use borrow.Author.Rules.{rules}
 use Rattle.postbytes.proofs.lists.boxes.Goals as goal
 
 pub returns : goal.returns

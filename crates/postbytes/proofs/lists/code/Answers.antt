@@ -5,7 +5,6 @@ use native.Mathlib.Omega.{arith}
 use lib.ListN.{get_or-eq_default}
 use Rattle.postbytes.proofs.ListsRound.{code_small}
 use Rattle.postbytes.specs.ListsWritten.{codes, code_of}
-use borrow.Author.Rules.{rules}
 use Rattle.postbytes.proofs.lists.code.Goals as goal
 
 pub returns-then-register-lt10 : goal.returns-then-register-lt10

@@ -6,7 +6,6 @@ use native.Mathlib.Nat.{one-mul}
 use native.Mathlib.Omega.{arith}
 use lib.Pow.{shl_exact}
 use Rattle.ground.specs.Choice.{pick}
-use borrow.Author.Rules.{rules}
 use Rattle.postbytes.proofs.lists.moved.Goals as goal
 
 pub returns-then-has : goal.returns-then-has

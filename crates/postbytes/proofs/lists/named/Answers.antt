@@ -5,7 +5,6 @@ use mathlib.Core.Bool.{Bool, ◌||◌}
 use mathlib.Core.List.{[], ◌∷◌}
 use Prim.Native.Nat.{ℕ, ◌*◌, ◌%◌, ◌^◌, ◌<◌}
 use lib.Dec.{T, eqb, eqb→eq}
-use borrow.Author.Rules.{rules}
 use borrow.Author.Tests.{ne_eqb}
 use Rattle.ground.specs.Choice.{pick}
 use Rattle.ground.proofs.Ranges.{below}

@@ -2,7 +2,6 @@
 -- Assumes nothing.
 use Rattle.ground.specs.Choice.{pick}
 use Rattle.postbytes.specs.ListsWritten.{paired_of}
-use borrow.Author.Rules.{rules}
 use Rattle.postbytes.proofs.lists.pair.Goals as goal
 
 pub returns-then-strange : goal.returns-then-strange

@@ -2,7 +2,6 @@
 -- Assumes nothing.
 use Rattle.ground.specs.Choice.{pick}
 use Rattle.postbytes.specs.ListsRead.{pair_of}
-use borrow.Author.Rules.{rules}
 use Rattle.postbytes.proofs.lists.pair_of.Goals as goal
 
 pub returns-then-barred : goal.returns-then-barred

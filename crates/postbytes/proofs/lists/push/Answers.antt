@@ -12,7 +12,6 @@ use Rattle.postbytes.specs.Lists.{among, not_stack, boxes}
 use Rattle.postbytes.specs.ListsWritten.{listed, ticks_of_set, push_byte_of, push_of}
 use Rattle.postbytes.specs.Meanings.{set_of}
 use Rattle.postbytes.proofs.Sets.{stack_small, stack_in_set, push_byte_of_set}
-use borrow.Author.Rules.{rules}
 use Rattle.postbytes.proofs.lists.push.Goals as goal
 
 -- the test of the own pointer in the list's set is that of the list

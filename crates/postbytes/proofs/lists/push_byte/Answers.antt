@@ -6,7 +6,6 @@ use Prim.Native.Nat.{ℕ, ◌+◌, ◌-◌, ◌<◌, ◌≤◌}
 use native.Mathlib.Nat.{zero-add}
 use native.Mathlib.Omega.{arith}
 use lib.ListN.{drop, get_or}
-use borrow.Author.Rules.{rules}
 use Rattle.postbytes.specs.Lists.{boxes}
 use Rattle.postbytes.specs.ListsWritten.{ticks_of_set}
 use Rattle.postbytes.proofs.Boxes.{box_small, set_ticks_small, moved_bit, boxes_ended, box_added}

@@ -1,15 +1,9 @@
 -- `postbytes::lists::push_byte` meets its contract. The loop's invariant: the boxes ticked, and those that are left of the row, are the whole row's.
 -- Assumes nothing.
-use mathlib.Core.Path.{◌≡◌, refl}
-use mathlib.Core.List.{List}
-use Prim.Native.Nat.{ℕ, ◌+◌, ◌-◌, ◌<◌, ◌≤◌}
-use native.Mathlib.Nat.{zero-add}
-use native.Mathlib.Omega.{arith}
-use lib.ListN.{drop, get_or}
-use borrow.Author.Rules.{rules}
-use Rattle.postbytes.specs.Lists.{boxes}
+use mathlib.Core.Path.{◌≡◌}
+use Prim.Native.Nat.{◌+◌, ◌-◌, ◌≤◌}
+use lib.ListN.{drop}
 use Rattle.postbytes.specs.ListsWritten.{ticks_of_set}
-use Rattle.postbytes.proofs.Boxes.{box_small, set_ticks_small, moved_bit, boxes_ended, box_added}
 use Rattle.postbytes.proofs.lists.push_byte.Given as goal
 
 abbrev pub invariant-loop-i : goal.invariant-loop-i

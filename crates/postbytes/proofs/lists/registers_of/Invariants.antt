@@ -1,15 +1,9 @@
 -- `postbytes::lists::registers_of` meets its contract. The loop's invariant: the registers read, and those that are left of the row, are the whole row's.
 -- Assumes nothing.
-use mathlib.Core.Path.{◌≡◌, refl}
-use mathlib.Core.List.{List}
-use Prim.Native.Nat.{ℕ, ◌+◌, ◌-◌, ◌<◌, ◌≤◌}
-use native.Mathlib.Nat.{zero-add}
-use native.Mathlib.Omega.{arith}
-use lib.ListN.{drop, get_or}
-use borrow.Author.Rules.{rules}
-use Rattle.postbytes.specs.Lists.{boxes}
-use Rattle.postbytes.specs.ListsRead.{ticked, registers_of}
-use Rattle.postbytes.proofs.Boxes.{box_small, ticked_small, moved_bit, boxes_ended, box_added}
+use mathlib.Core.Path.{◌≡◌}
+use Prim.Native.Nat.{◌+◌, ◌-◌, ◌≤◌}
+use lib.ListN.{drop}
+use Rattle.postbytes.specs.ListsRead.{ticked}
 use Rattle.postbytes.proofs.lists.registers_of.Given as goal
 
 abbrev pub invariant-loop-i : goal.invariant-loop-i

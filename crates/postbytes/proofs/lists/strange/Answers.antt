@@ -2,7 +2,6 @@
 -- Assumes nothing.
 use borrow.Author.Tests.{lt-ltb, le-ltb}
 use Rattle.postbytes.specs.Lists.{strange_list}
-use borrow.Author.Rules.{rules}
 use Rattle.postbytes.proofs.lists.strange.Goals as goal
 
 pub returns-then-count-gt8 : goal.returns-then-count-gt8

@@ -4,7 +4,6 @@ use Rattle.ground.specs.Choice.{pick}
 use native.Mathlib.Omega.{arith}
 use borrow.Author.Tests.{lt-ltb, le-ltb}
 use Rattle.values.specs.Widths.{extended}
-use borrow.Author.Rules.{rules}
 use Rattle.postbytes.proofs.shapes.byte.Goals as goal
 
 pub returns-then-n-lt128 : goal.returns-then-n-lt128

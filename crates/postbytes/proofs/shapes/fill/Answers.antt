@@ -1,6 +1,5 @@
 -- `postbytes::shapes::fill` meets its contract.
 -- Assumes nothing.
-use borrow.Author.Rules.{rules}
 use Rattle.postbytes.proofs.shapes.fill.Goals as goal
 
 pub returns-in-NoOffset : goal.returns-in-NoOffset

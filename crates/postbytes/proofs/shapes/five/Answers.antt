@@ -5,7 +5,6 @@ use Prim.Native.Nat.{◌%◌}
 use native.Mathlib.Omega.{arith}
 use borrow.Author.Tests.{lt-ltb, le-ltb}
 use Rattle.values.specs.Widths.{extended}
-use borrow.Author.Rules.{rules}
 use Rattle.postbytes.proofs.shapes.five.Goals as goal
 
 pub returns-then-bits-lt16 : goal.returns-then-bits-lt16

@@ -3,7 +3,6 @@
 use Rattle.ground.specs.Choice.{pick}
 use borrow.Author.Tests.{ne_eqb}
 use Rattle.postbytes.specs.Reading.{high_of}
-use borrow.Author.Rules.{rules}
 use Rattle.postbytes.proofs.shapes.high.Goals as goal
 
 pub returns-in-4 : goal.returns-in-4

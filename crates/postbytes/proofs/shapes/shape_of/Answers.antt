@@ -3,7 +3,6 @@
 use Rattle.ground.specs.Choice.{pick}
 use borrow.Author.Tests.{lt-ltb, le-ltb}
 use Rattle.postbytes.specs.Reading.{shape_of}
-use borrow.Author.Rules.{rules}
 use Rattle.postbytes.proofs.shapes.shape_of.Goals as goal
 
 pub returns-then-postbyte-lt128 : goal.returns-then-postbyte-lt128

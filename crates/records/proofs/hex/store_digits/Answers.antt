@@ -5,7 +5,6 @@ use mathlib.Core.List.{[], ◌∷◌}
 use native.Mathlib.Omega.{arith}
 use Rattle.ground.proofs.Stores.{put_past}
 use Rattle.records.specs.Hex.{hexes}
-use borrow.Author.Rules.{rules}
 use Rattle.records.proofs.hex.store_digits.Goals as goal
 
 pub returns-then-at-out : goal.returns-then-at-out

@@ -6,11 +6,11 @@ use native.Mathlib.Omega.{arith}
 use Rattle.ground.proofs.Stores.{put_past}
 use Rattle.records.specs.Line.{line}
 use Rattle.records.proofs.Writing.{length_line, length_hexes, line_wrote}
-use borrow.Author.Rules.{rules}
 use Rattle.records.proofs.lines.put_line.Goals as goal
+use Rattle.records.proofs.lines.put_line.Goals.{After-bytes-filled}
 
 -- after the data there is room for check and line feed
-places : (c : goal.After-bytes-filled) → c.bytes-filled.result.at + 3 < 2 ^ 64
+places : (c : After-bytes-filled) → c.bytes-filled.result.at + 3 < 2 ^ 64
 places c =
     let headed = c in
     let start = headed in

@@ -2,22 +2,23 @@
 -- Assumes nothing.
 use mathlib.Core.Path.{◌≡◌, refl, sym, ◌∙◌}
 use mathlib.Core.Bool.{Bool, true, false, ◌||◌}
-use Prim.Native.Nat.{◌+◌, ◌-◌, ◌≤◌}
+use Prim.Native.Nat.{◌+◌, ◌-◌}
 use native.Mathlib.Omega.{arith}
-use lib.ListN.{length, drop}
+use lib.ListN.{drop}
 use lib.Dec.{ltb}
 use borrow.Author.Tests.{ltb-false}
 use Rattle.records.specs.Objects.{bad_objects}
 use Rattle.ground.proofs.Tests.{neither_right}
 use Rattle.records.proofs.Tables.{bad_next, bad_done}
 use Rattle.records.proofs.objects.bad_objects.Goals as goal
+use Rattle.records.proofs.objects.bad_objects.Goals.{After-row_at-row}
 
 -- the test at the row just read, and what is left after it
-abbrev test : goal.After-row_at-row → Bool
+abbrev test : After-row_at-row → Bool
 test c = ltb 1 c.row_at-row.result.kind || ltb c.loop-i.left c.row_at-row.result.count
 
 row_next :
-    (c : goal.After-row_at-row) →
+    (c : After-row_at-row) →
     let a = c.args in
     let l = c.loop-i in
     (test c || bad_objects (l.left - c.row_at-row.result.count) (drop (l.i + 3) a.objects.now))

@@ -1,15 +1,9 @@
 -- `records::objects::bad_objects` meets its contract. The loop's invariant: what is left is bad exactly if the whole is.
 -- Assumes nothing.
-use mathlib.Core.Path.{◌≡◌, refl, sym, ◌∙◌}
-use mathlib.Core.Bool.{Bool, true, false, ◌||◌}
-use Prim.Native.Nat.{◌+◌, ◌-◌, ◌≤◌}
-use native.Mathlib.Omega.{arith}
+use mathlib.Core.Path.{◌≡◌}
+use Prim.Native.Nat.{◌-◌, ◌≤◌}
 use lib.ListN.{length, drop}
-use lib.Dec.{ltb}
-use borrow.Author.Tests.{ltb-false}
 use Rattle.records.specs.Objects.{bad_objects}
-use Rattle.ground.proofs.Tests.{neither_right}
-use Rattle.records.proofs.Tables.{bad_next, bad_done}
 use Rattle.records.proofs.objects.bad_objects.Given as goal
 
 abbrev pub invariant-loop-i : goal.invariant-loop-i

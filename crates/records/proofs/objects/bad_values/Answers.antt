@@ -2,10 +2,10 @@
 -- Assumes nothing.
 use mathlib.Core.Path.{◌≡◌, refl, sym, ◌∙◌}
 use mathlib.Core.Bool.{true, false, not}
-use Prim.Native.Nat.{◌+◌, ◌-◌, ◌≤◌}
+use Prim.Native.Nat.{◌+◌}
 use native.Mathlib.Omega.{arith}
-use lib.ListN.{length, get_or, drop}
-use Rattle.records.specs.Objects.{fits, bad_values}
+use lib.ListN.{get_or}
+use Rattle.records.specs.Objects.{fits}
 use Rattle.records.proofs.Tables.{values_next, values_done}
 use Rattle.records.proofs.objects.bad_values.Goals as goal
 

@@ -1,12 +1,9 @@
 -- `records::objects::bad_values` meets its contract. The loop's invariant: what is left is bad exactly if the whole is.
 -- Assumes nothing.
-use mathlib.Core.Path.{◌≡◌, refl, sym, ◌∙◌}
-use mathlib.Core.Bool.{true, false, not}
-use Prim.Native.Nat.{◌+◌, ◌-◌, ◌≤◌}
-use native.Mathlib.Omega.{arith}
-use lib.ListN.{length, get_or, drop}
-use Rattle.records.specs.Objects.{fits, bad_values}
-use Rattle.records.proofs.Tables.{values_next, values_done}
+use mathlib.Core.Path.{◌≡◌}
+use Prim.Native.Nat.{◌-◌, ◌≤◌}
+use lib.ListN.{length, drop}
+use Rattle.records.specs.Objects.{bad_values}
 use Rattle.records.proofs.objects.bad_values.Given as goal
 
 abbrev pub invariant-loop-k : goal.invariant-loop-k

@@ -1,7 +1,6 @@
 -- `records::objects::is_faulty` meets its contract.
 -- Assumes nothing.
 use Rattle.records.specs.Objects.{faulty}
-use borrow.Author.Rules.{rules}
 use Rattle.records.proofs.objects.is_faulty.Goals as goal
 
 pub returns : goal.returns

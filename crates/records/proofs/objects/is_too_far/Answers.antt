@@ -2,24 +2,25 @@
 -- Assumes nothing.
 use mathlib.Core.Path.{◌≡◌, refl, sym, ap, ◌∙◌}
 use mathlib.Core.Bool.{◌||◌}
-use Prim.Native.Nat.{ℕ, ◌+◌, ◌*◌, ◌-◌, ◌≤◌, ◌<◌}
+use Prim.Native.Nat.{ℕ, ◌+◌, ◌*◌, ◌≤◌, ◌<◌}
 use native.Mathlib.Omega.{arith}
 use lib.Dec.{ltb}
 use borrow.Author.Tests.{lt-ltb, le-ltb}
 use lib.ListN.{length, take, drop}
 use Rattle.records.specs.Objects.{data_of, objects_of, too_far}
-use Rattle.records.proofs.Tables.{Left, left_first, left_next, values_there, far_next, objects_done, data_small}
+use Rattle.records.proofs.Tables.{left_first, left_next, values_there, far_next, objects_done, data_small}
 use Rattle.records.proofs.objects.is_too_far.Goals as goal
+use Rattle.records.proofs.objects.is_too_far.Goals.{After-row_at-row}
 
 -- where the object at the row just read ends, and what is left after it
-abbrev end : goal.After-row_at-row → ℕ
+abbrev end : After-row_at-row → ℕ
 end c =
     let vs = c.args.values.now in
     let row = c.row_at-row.result in
     row.address + length (data_of (take (2 * row.count) (drop c.loop-i.k vs)))
 
 row_next :
-    (c : goal.After-row_at-row) → c.row_at-row.result.address < 65536 →
+    (c : After-row_at-row) → c.row_at-row.result.address < 65536 →
     let a = c.args in
     let l = c.loop-i in
     (ltb 65536 (end c)
@@ -32,7 +33,7 @@ row_next c h =
     ∙ l.invariant.0
 
 there :
-    (c : goal.After-row_at-row) →
+    (c : After-row_at-row) →
     let l = c.loop-i in
     l.k + 2 * c.row_at-row.result.count ≤ length c.args.values.now
 there c =
@@ -51,12 +52,12 @@ overflow_add-row c =
     let read = c in
     let l = read.loop-i in
     let vs = read.args.values.now in
-    omega (arith, c.type_size.ensures, data_small (drop l.k vs) read.row_at-row.result.count)
+    omega (arith, c.size_of.ensures, data_small (drop l.k vs) read.row_at-row.result.count)
 
 pub returns-then-row-size_of-gt65536 : goal.returns-then-row-size_of-gt65536
 returns-then-row-size_of-gt65536 c =
     let read = c in
-    rw (lt-ltb 65536 (end (goal.at.returns-then-row-size_of-gt65536 c).After-row_at-row) (omega (arith, c.type_size.ensures))) at (row_next (goal.at.returns-then-row-size_of-gt65536 c).After-row_at-row (omega arith))
+    rw (lt-ltb 65536 (end (goal.at.returns-then-row-size_of-gt65536 c).After-row_at-row) (omega (arith, c.size_of.ensures))) at (row_next (goal.at.returns-then-row-size_of-gt65536 c).After-row_at-row (omega arith))
 
 pub overflow_mul-k : goal.overflow_mul-k
 overflow_mul-k c = omega (arith, there (goal.at.overflow_mul-k c).After-row_at-row)
@@ -69,7 +70,7 @@ loop-i-preserved c =
     let read = c in
     let a = read.args in
     let l = read.loop-i in (
-      rw (le-ltb 65536 (end (goal.at.loop-i-preserved c).After-row_at-row) (omega (arith, c.type_size.ensures))) at (row_next (goal.at.loop-i-preserved c).After-row_at-row (omega arith)),
+      rw (le-ltb 65536 (end (goal.at.loop-i-preserved c).After-row_at-row) (omega (arith, c.size_of.ensures))) at (row_next (goal.at.loop-i-preserved c).After-row_at-row (omega arith)),
       left_next a.objects.now l.i read.row_at-row.result (omega arith) read.row_at-row.ensures a.values.now l.k l.invariant.1,
     )
 

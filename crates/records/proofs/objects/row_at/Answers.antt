@@ -4,7 +4,6 @@ use borrow.Author.Tests.{eq-eqb, ne_eqb}
 use Rattle.ground.specs.Choice.{pick}
 use Rattle.records.specs.Objects.{count_of}
 use Rattle.records.specs.Rows.{row_at}
-use borrow.Author.Rules.{rules}
 use Rattle.records.proofs.objects.row_at.Goals as goal
 
 pub returns-then-kind-eq1 : goal.returns-then-kind-eq1

@@ -1,6 +1,6 @@
 -- `records::objects::size_of` meets its contract. The loop's invariant: the bytes counted and those of the values left are all.
 -- Assumes nothing.
-use mathlib.Core.Path.{◌≡◌, refl, ap}
+use mathlib.Core.Path.{refl, ap}
 use Prim.Native.Nat.{◌+◌, ◌*◌, ◌-◌, ◌≤◌}
 use native.Mathlib.Omega.{arith}
 use lib.Dec.{eqb}
@@ -8,8 +8,9 @@ use lib.ListN.{length, length-append, get_or, take, drop}
 use Rattle.records.specs.Objects.{bytes_of, data_of}
 use Rattle.records.proofs.Tables.{data_next, data_done, length_bytes, size_small}
 use Rattle.records.proofs.objects.size_of.Goals as goal
+use Rattle.records.proofs.objects.size_of.Goals.{After-size-total}
 
-small : (c : goal.After-size-total) → c.size-total.result ≤ 2
+small : (c : After-size-total) → c.size-total.result ≤ 2
 small c = omega (arith, c.size-total.ensures, size_small (eqb (get_or c.args.values.now (c.loop-left.k + 1) 0) 16))
 
 pub loop-left-init : goal.loop-left-init

@@ -1,12 +1,9 @@
 -- `records::objects::size_of` meets its contract. The loop's invariant: the bytes counted and those of the values left are all.
 -- Assumes nothing.
-use mathlib.Core.Path.{◌≡◌, refl, ap}
-use Prim.Native.Nat.{◌+◌, ◌*◌, ◌-◌, ◌≤◌}
-use native.Mathlib.Omega.{arith}
-use lib.Dec.{eqb}
-use lib.ListN.{length, length-append, get_or, take, drop}
-use Rattle.records.specs.Objects.{bytes_of, data_of}
-use Rattle.records.proofs.Tables.{data_next, data_done, length_bytes, size_small}
+use mathlib.Core.Path.{◌≡◌}
+use Prim.Native.Nat.{◌+◌, ◌*◌, ◌≤◌}
+use lib.ListN.{length, take, drop}
+use Rattle.records.specs.Objects.{data_of}
 use Rattle.records.proofs.objects.size_of.Given as goal
 
 abbrev pub invariant-loop-left : goal.invariant-loop-left

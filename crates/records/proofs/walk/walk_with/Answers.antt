@@ -1,45 +1,24 @@
 -- `records::walk::walk_with` meets its contract: at the head of each loop the text still ahead completes the whole, and so it does on every way out.
 -- Assumes nothing.
 use mathlib.Core.Path.{refl, sym, ◌∙◌}
-use mathlib.Core.Logic.{⊎_elim}
 use mathlib.Core.List.{List}
-use Prim.Native.Nat.{ℕ, ◌+◌, ◌-◌, ◌*◌, ◌^◌, ◌<◌}
+use Prim.Native.Nat.{ℕ, ◌+◌, ◌*◌, ◌^◌, ◌<◌}
 use native.Mathlib.Omega.{arith}
-use lib.ListN.{length}
 use Rattle.records.specs.Objects.{objects_of}
 use Rattle.records.specs.Text.{events, recs, text_of}
 use Rattle.records.specs.Steps.{Present, holding}
 use Rattle.records.proofs.Tables.{left_first}
-use Rattle.records.proofs.Rounds.{
+use Rattle.records.proofs.Rounds.{along_here, along_then, value_near, value_way, inner_again, outer_begun, outer_without, outer_with, begin_way, Outcome, outcome_done, outcome_over, outcome_moved, walked_over, walked_done}
 use Rattle.records.proofs.walk.walk_with.Goals as goal
-
-  objects_then,
-  along_here,
-  along_then,
-  Inner,
-  value_near,
-  value_way,
-  inner_again,
-  Outer,
-  outer_begun,
-  outer_without,
-  outer_with,
-  begin_way,
-  Outcome,
-  outcome_done,
-  outcome_over,
-  outcome_moved,
-  walked_over,
-  walked_done,
-}
+use Rattle.records.proofs.walk.walk_with.Goals.{At-values, Left-objects, else-objects-test, then-objects-test+else-row-ne1+then-room-present, then-objects-test+else-row-ne1+else-room-present+then-values-test+then-room-present-2}
 
 -- the record that the walk begins with, whatever the array holds
 abbrev first : List ℕ → Present
 first bytes = record { start = 0; n = 0; at = 0; bytes = bytes }
 
 -- the values that are left are there, and their places fit a usize
-short : (c : goal.At-values) → (c.values.k + 2 * c.values.left) * 2 < 2 ^ 63
-short c = let start = c in omega (arith, start.well-formed.1.0.1, c.values.invariant.there)
+short : (c : At-values) → (c.values.k + 2 * c.values.left) * 2 < 2 ^ 63
+short c = let start = c in omega (arith, c.values.invariant.there)
 
 pub objects-init : goal.objects-init
 objects-init c =
@@ -71,14 +50,14 @@ values-init c =
     let read = begun in
     let inv = read.objects.invariant in
     outer_begun inv read.row_at-row.result (omega arith) read.row_at-row.ensures (omega arith) begun.if-row-ne1.false
-    begun.begin-present.ensures begun.begin-present.auto.1.1.0 (omega arith)
+    begun.begin-present.ensures begun.begin-present.auto.out (omega arith)
 
 pub objects-preserved : goal.objects-preserved
 objects-preserved c =
     let begun = c in
     let read = begun in
     outer_with read.objects.invariant read.row_at-row.result (omega arith) read.row_at-row.ensures (omega arith)
-    begun.if-row-ne1.false begun.begin-present.ensures begun.begin-present.auto.1.1.0 c.values.invariant c.values-test.false
+    begun.if-row-ne1.false begun.begin-present.ensures begun.begin-present.auto.out c.values.invariant c.values-test.false
 
 pub offset_bounds-values-k : goal.offset_bounds-values-k
 offset_bounds-values-k c = omega (arith, short (goal.at.offset_bounds-values-k c).At-values)
@@ -116,29 +95,28 @@ values-preserved c =
     let l = at.values in
     let vs = at.args.values.now in
     inner_again vs l.k l.left l.invariant valued.values-test.true
-    valued.value-present.ensures valued.value-present.auto.1.1.0 (omega arith)
+    valued.value-present.ensures valued.value-present.auto.out (omega arith)
 
 -- the three ways out of the loops
 outcome :
-    (c : goal.Left-objects) →
+    (c : Left-objects) →
     let a = c.args in
     Outcome a.room a.out.now (first a.bytes.now) (events (objects_of a.objects.now a.values.now))
     c.objects-test.out (holding c.objects-test.present c.objects-test.bytes)
 outcome c =
     let inv = c.objects.invariant in
     let vs = c.args.values.now in
-    ⊎_elim
-    (λ w. outcome_moved (outcome_done inv w.0.left) w.1 w.2 w.3)
-    (⊎_elim
-    (λ w.
-    outcome_moved
-    (outcome_over (begin_way inv w.1.result (omega arith) w.1.ensures (omega arith) w.3.left w.7.ensures w.7.kept.1.1.0) w.11.taken)
-    w.12 w.13 w.14)
-    (λ w.
-    let begun = begin_way inv w.1.result (omega arith) w.1.ensures (omega arith) w.3.left w.7.ensures w.7.kept.1.1.0 in
-    let valued = value_way vs w.13.k w.13.left w.13.inv w.14.taken w.19.ensures w.19.kept.1.1.0 in
-    outcome_moved (outcome_over (along_then begun valued) w.25.taken) w.26 w.27 w.28))
-    c.objects-test.branch
+    elim c.objects-test.branch [
+      | else-objects-test w ↦ outcome_moved (outcome_done inv w.objects-test.false) w.bytes-is w.out-is w.present-is
+      | then-objects-test+else-row-ne1+then-room-present w ↦
+          outcome_moved
+          (outcome_over (begin_way inv w.row_at-row.result (omega arith) w.row_at-row.ensures (omega arith) w.if-row-ne1.false w.begin-present.ensures w.begin-present.auto.out) w.if-room-present.true)
+          w.bytes-is w.out-is w.present-is
+      | then-objects-test+else-row-ne1+else-room-present+then-values-test+then-room-present-2 w ↦
+          let begun = begin_way inv w.row_at-row.result (omega arith) w.row_at-row.ensures (omega arith) w.if-row-ne1.false w.begin-present.ensures w.begin-present.auto.out in
+          let valued = value_way vs w.values.k w.values.left w.values.invariant w.values-test.true w.value-present.ensures w.value-present.auto.out in
+          outcome_moved (outcome_over (along_then begun valued) w.if-room-present-2.true) w.bytes-is w.out-is w.present-is
+    ]
 
 pub finish-requires : goal.finish-requires
 finish-requires c =
@@ -169,7 +147,7 @@ shape_of-bytes-else-room-present-3 c =
     (outcome (goal.at.shape_of-bytes-else-room-present-3 c).Left-objects).whole ∙ sym left.requires.0
 
 pub shape_of-out-else-room-present-3 : goal.shape_of-out-else-room-present-3
-shape_of-out-else-room-present-3 c = c.finish.auto.1.1.0 ∙ (outcome (goal.at.shape_of-out-else-room-present-3 c).Left-objects).long
+shape_of-out-else-room-present-3 c = c.finish.auto.out ∙ (outcome (goal.at.shape_of-out-else-room-present-3 c).Left-objects).long
 
 pub returns-else-room-present-3 : goal.returns-else-room-present-3
 unfolding text_of recs

@@ -1,16 +1,11 @@
 -- `records::walk::walk_with` meets its contract: at the head of each loop the text still ahead completes the whole, and so it does on every way out.
 -- Assumes nothing.
-use mathlib.Core.Path.{refl, sym, ◌∙◌}
-use mathlib.Core.Logic.{⊎_elim}
-use mathlib.Core.List.{List}
-use Prim.Native.Nat.{ℕ, ◌+◌, ◌-◌, ◌*◌, ◌^◌, ◌<◌}
-use native.Mathlib.Omega.{arith}
+use Prim.Native.Nat.{◌+◌, ◌-◌, ◌*◌}
 use lib.ListN.{length}
 use Rattle.records.specs.Objects.{objects_of}
-use Rattle.records.specs.Text.{events, recs, text_of}
-use Rattle.records.specs.Steps.{Present, holding}
-use Rattle.records.proofs.Tables.{left_first}
-use Rattle.records.proofs.Rounds.{
+use Rattle.records.specs.Text.{events}
+use Rattle.records.specs.Steps.{holding}
+use Rattle.records.proofs.Rounds.{objects_then, Inner, Outer}
 use Rattle.records.proofs.walk.walk_with.Given as goal
 
 abbrev pub invariant-values : goal.invariant-values

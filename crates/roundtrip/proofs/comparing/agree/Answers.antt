@@ -37,7 +37,7 @@ returns-then-not-alike c = let s = c in
     let e = c.same-alike.ensures in
     agreeing_differs s.args.list.now s.args.theirs.now (origin s.args.address s.args.page) (omega arith) s.requires
     x.loop-place.at x.loop-place.place x.loop-place.invariant c.loop-place-test.true m.result o.result m.ensures o.ensures
-    (sym e ∙ not-true _ c.if-not-alike.true)
+    (sym e ∙ c.if-not-alike.true)
 
 -- a turn that agreed
 agreed_on :
@@ -54,7 +54,7 @@ agreed_on c = let s = c in
     let e = c.same-alike.ensures in
     agreeing_more s.args.list.now s.args.theirs.now (origin s.args.address s.args.page) (omega arith) s.requires
     x.loop-place.at x.loop-place.place x.loop-place.invariant c.loop-place-test.true m.result o.result m.ensures o.ensures
-    (sym e ∙ not-false _ c.if-not-alike.false)
+    (sym e ∙ c.if-not-alike.false)
 
 pub overflow_add-at : goal.overflow_add-at
 overflow_add-at c = let a = agreed_on (goal.at.overflow_add-at c).After-struct_known-1 in omega (arith, a.other)

@@ -2,7 +2,6 @@
 -- Assumes nothing.
 use mathlib.Core.Path.{refl}
 use Rattle.rows.specs.Quick.{digit_of}
-use borrow.Author.Rules.{rules}
 use Rattle.rows.proofs.places.digit.Goals as goal
 
 pub returns : goal.returns

@@ -3,7 +3,6 @@
 use mathlib.Core.Path.{◌∙◌, ap}
 use Prim.Native.Nat.{ℕ}
 use Rattle.rows.specs.Quick.{digit_of, form_of}
-use borrow.Author.Rules.{rules}
 use Rattle.rows.proofs.places.form_of.Goals as goal
 
 pub returns : goal.returns

@@ -3,7 +3,6 @@
 use borrow.Author.Tests.{eq-eqb, ne_eqb}
 use Rattle.ground.specs.Choice.{pick}
 use Rattle.rows.specs.Quick.{place_of_code}
-use borrow.Author.Rules.{rules}
 use Rattle.rows.proofs.places.place_of_code.Goals as goal
 
 pub returns-then-page-eq0 : goal.returns-then-page-eq0

@@ -3,7 +3,6 @@
 use borrow.Author.Tests.{lt-ltb, le-ltb, eq-eqb, ne_eqb}
 use Rattle.ground.specs.Choice.{pick}
 use Rattle.rows.specs.Quick.{place_of_operation}
-use borrow.Author.Rules.{rules}
 use Rattle.rows.proofs.places.place_of_operation.Goals as goal
 
 pub returns-then-operation-lt96 : goal.returns-then-operation-lt96

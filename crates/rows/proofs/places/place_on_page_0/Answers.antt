@@ -3,7 +3,6 @@
 use native.Mathlib.Omega.{arith}
 use Rattle.rows.specs.Quick.{place_on_page0}
 use Rattle.rows.proofs.Lines.{digit_small, first_small_lem}
-use borrow.Author.Rules.{rules}
 use Rattle.rows.proofs.places.place_on_page_0.Goals as goal
 
 pub overflow_add-result : goal.overflow_add-result

@@ -3,7 +3,6 @@
 use native.Mathlib.Omega.{arith}
 use Rattle.rows.specs.Quick.{regular_code}
 use Rattle.rows.proofs.Lines.{digit_small}
-use borrow.Author.Rules.{rules}
 use Rattle.rows.proofs.places.regular_code.Goals as goal
 
 pub overflow_mul-result : goal.overflow_mul-result

@@ -5,7 +5,6 @@ use Prim.Native.Nat.{ℕ, ◌*◌}
 use native.Mathlib.Omega.{arith}
 use Rattle.rows.specs.Sizes.{immediate_width_of}
 use Rattle.rows.proofs.Bytes.{number_size_small}
-use borrow.Author.Rules.{rules}
 use Rattle.rows.proofs.sizes.immediate_width.Goals as goal
 
 pub overflow_mul-result : goal.overflow_mul-result

@@ -4,7 +4,6 @@ use native.Mathlib.Omega.{arith}
 use Rattle.ground.specs.Choice.{pick}
 use Rattle.rows.specs.Sizes.{long_from, long_of}
 use Rattle.rows.proofs.Bytes.{long_short, long_below, long_above}
-use borrow.Author.Rules.{rules}
 use Rattle.rows.proofs.sizes.long_of.Goals as goal
 
 pub returns-in-113 : goal.returns-in-113

@@ -3,7 +3,6 @@
 use mathlib.Core.Path.{◌∙◌, ap}
 use Prim.Native.Nat.{ℕ}
 use Rattle.rows.specs.Quick.{digit_of, number_digit}
-use borrow.Author.Rules.{rules}
 use Rattle.rows.proofs.sizes.number_digit.Goals as goal
 
 pub returns : goal.returns

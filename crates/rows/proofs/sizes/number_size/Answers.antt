@@ -5,7 +5,6 @@ use Prim.Native.Nat.{ℕ}
 use native.Mathlib.Omega.{arith}
 use Rattle.rows.specs.Quick.{number_bytes}
 use Rattle.rows.proofs.Bytes.{number_quick}
-use borrow.Author.Rules.{rules}
 use Rattle.rows.proofs.sizes.number_size.Goals as goal
 
 pub returns : goal.returns

@@ -5,7 +5,6 @@ use borrow.Author.Tests.{eq-eqb, ne_eqb}
 use Rattle.ground.specs.Choice.{pick}
 use Rattle.rows.specs.Quick.{row_bytes}
 use Rattle.rows.proofs.Bytes.{operand_small}
-use borrow.Author.Rules.{rules}
 use Rattle.rows.proofs.sizes.row_bytes.Goals as goal
 
 pub overflow_add-result : goal.overflow_add-result

@@ -6,7 +6,6 @@ use native.Mathlib.Omega.{arith}
 use Rattle.ground.proofs.Choices.{pick_true, pick_false, told}
 use Rattle.rows.specs.Quick.{row_bytes}
 use Rattle.rows.proofs.Bytes.{size_quick}
-use borrow.Author.Rules.{rules}
 use Rattle.rows.proofs.sizes.smallest_size.Goals as goal
 
 pub returns-then-known : goal.returns-then-known

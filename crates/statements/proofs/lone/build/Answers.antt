@@ -10,14 +10,16 @@ pub returns-then-overfull : goal.returns-then-overfull
 returns-then-overfull c =
     let a = c.args in
     let o = sym c.overfull.ensures ∙ c.if-overfull.true in
-    rw c.refused.ensures (too_many_lem a.list.now a.items.now a.nodes.now a.labels.now a.i a.address a.page a.ill a.values.now o)
+    let p = too_many_lem a.list.now a.items.now a.nodes.now a.labels.now a.i a.address a.page a.ill a.values.now o in
+    rw c.refused.ensures (record { value = p.0; values_after = p.1 })
 
 pub returns-then-effect-ne0 : goal.returns-then-effect-ne0
 returns-then-effect-ne0 c =
     let a = c.args in
     let o = sym c.overfull.ensures ∙ c.if-overfull.false in
     let e = c.effect-effect.ensures in
-    rw (c.refused-then-effect-ne0.ensures, e) (own a.list.now a.items.now a.nodes.now a.labels.now a.i a.address a.page a.ill a.values.now o (λ z. c.if-effect-ne0.true (ap (λ (e : Effect). e.refusal) e ∙ z)))
+    let p = own a.list.now a.items.now a.nodes.now a.labels.now a.i a.address a.page a.ill a.values.now o (λ z. c.if-effect-ne0.true (ap (λ (e : Effect). e.refusal) e ∙ z)) in
+    rw (c.refused-then-effect-ne0.ensures, e) (record { value = p.0; values_after = p.1 })
 
 pub returns-then-values-count : goal.returns-then-values-count
 returns-then-values-count c =
@@ -25,7 +27,8 @@ returns-then-values-count c =
     let o = sym c.overfull.ensures ∙ c.if-overfull.false in
     let e = c.effect-effect.ensures in
     let n = c.store_values-count.ensures.value in
-    rw c.refused-then-values-count.ensures (no_room_lem a.list.now a.items.now a.nodes.now a.labels.now a.i a.address a.page a.ill a.values.now o (sym (ap (λ (e : Effect). e.refusal) e) ∙ c.if-effect-ne0.false) (rw n at c.if-values-count.true))
+    let p = no_room_lem a.list.now a.items.now a.nodes.now a.labels.now a.i a.address a.page a.ill a.values.now o (sym (ap (λ (e : Effect). e.refusal) e) ∙ c.if-effect-ne0.false) (rw n at c.if-values-count.true) in
+    rw c.refused-then-values-count.ensures (record { value = p.0; values_after = p.1 })
 
 pub returns : goal.returns
 returns c =
@@ -33,4 +36,5 @@ returns c =
     let o = sym c.overfull.ensures ∙ c.if-overfull.false in
     let e = c.effect-effect.ensures in
     let n = c.store_values-count.ensures.value in
-    rw (c.accepted.ensures, e, n, c.store_values.ensures.values_after) (stored a.list.now a.items.now a.nodes.now a.labels.now a.i a.address a.page a.ill a.values.now o (sym (ap (λ (e : Effect). e.refusal) e) ∙ c.if-effect-ne0.false) (rw n at c.if-values-count.false))
+    let p = stored a.list.now a.items.now a.nodes.now a.labels.now a.i a.address a.page a.ill a.values.now o (sym (ap (λ (e : Effect). e.refusal) e) ∙ c.if-effect-ne0.false) (rw n at c.if-values-count.false) in
+    rw (c.accepted.ensures, e, n, c.store_values.ensures.values_after) (record { value = p.0; values_after = p.1 })

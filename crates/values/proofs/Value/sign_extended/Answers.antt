@@ -1,12 +1,10 @@
 use Rattle.ground.specs.Choice.{pick}
-use borrow.Author.Rules.{rules}
 use native.Mathlib.Omega.{arith}
 use mathlib.Core.Path.{ap, sym}
 use Prim.Native.Nat.{ℕ, ◌%◌}
 use Rattle.values.specs.Widths.{bits_of, extended, sign_extended_of}
 use Rattle.values.specs.declared.Value.{Value}
 use Rattle.values.proofs.Laws.{extended_whole}
-use native.Mathlib.Nat.{mod-eq_of_lt}
 use borrow.Author.Tests.{lt-ltb, le-ltb, eq-eqb, ne_eqb}
 use Rattle.values.proofs.Value.sign_extended.Goals as goal
 

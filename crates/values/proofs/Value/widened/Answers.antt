@@ -1,12 +1,10 @@
 use Rattle.ground.specs.Choice.{pick}
 use native.Mathlib.Omega.{arith}
-use mathlib.Core.Path.{ap, sym}
+use mathlib.Core.Path.{ap}
 use Prim.Native.Nat.{ℕ}
 use Rattle.values.specs.Widths.{bits_of, widened_of}
 use Rattle.values.specs.declared.Value.{Value}
-use Rattle.values.proofs.Laws.{extended_whole}
-use native.Mathlib.Nat.{mod-eq_of_lt}
-use borrow.Author.Tests.{lt-ltb, le-ltb, eq-eqb, ne_eqb}
+use borrow.Author.Tests.{eq-eqb, ne_eqb}
 use Rattle.values.proofs.Value.widened.Goals as goal
 
 pub returns-then-w-eq8 : goal.returns-then-w-eq8

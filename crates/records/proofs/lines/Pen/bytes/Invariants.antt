@@ -1,15 +1,11 @@
 -- `records::lines::Pen::bytes` meets its contract. The loop's invariant: what is left, written from here, makes what the whole makes from the start.
 -- Assumes nothing.
-use mathlib.Core.Path.{◌≡◌, refl, sym, ap, ◌∙◌}
-use mathlib.Core.List.{List}
-use Prim.Native.Nat.{ℕ, ◌+◌, ◌-◌, ◌*◌, ◌%◌, ◌≤◌, ◌<◌}
-use native.Mathlib.Omega.{arith}
-use lib.ListN.{length, drop, drop_of_length-le}
+use mathlib.Core.Path.{◌≡◌}
+use Prim.Native.Nat.{◌+◌, ◌-◌, ◌*◌, ◌%◌, ◌≤◌, ◌<◌}
+use lib.ListN.{length, drop}
 use Rattle.ground.specs.Stores.{put}
-use Rattle.ground.proofs.Stores.{rest, kept, drop_next}
 use Rattle.records.specs.Hex.{hexes}
 use Rattle.records.specs.Line.{sum}
-use Rattle.records.proofs.Writing.{length_hexes}
 use Rattle.records.proofs.lines.Pen.bytes.Given as goal
 
 abbrev pub invariant-loop-i : goal.invariant-loop-i

@@ -5,7 +5,6 @@ use mathlib.Core.List.{[], ◌∷◌}
 use Prim.Native.Nat.{◌-◌, ◌%◌}
 use native.Mathlib.Omega.{arith}
 use Rattle.records.specs.Line.{check_of}
-use borrow.Author.Rules.{rules}
 use Rattle.records.proofs.lines.Pen.check.Goals as goal
 
 pub returns : goal.returns

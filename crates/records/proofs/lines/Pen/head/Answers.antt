@@ -1,7 +1,6 @@
 -- `records::lines::Pen::head` meets its contract: four bytes, one after the other.
 -- Assumes nothing.
 use Rattle.records.proofs.Writing.{penned_then}
-use borrow.Author.Rules.{rules}
 use Rattle.records.proofs.lines.Pen.head.Goals as goal
 
 pub returns : goal.returns

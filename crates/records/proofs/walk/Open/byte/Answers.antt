@@ -8,32 +8,32 @@ use lib.ListN.{length, set, length-set, length-append}
 use Rattle.records.specs.Text.{Event, Byte, recs_from, text}
 use Rattle.records.specs.Steps.{Present, holding, pending, closing, ahead}
 use Rattle.records.proofs.Steps.{ahead_closes, ahead_grows, closing_short, goes_stay, goes_restart, pending_length, pending_grown}
-use borrow.Author.Rules.{rules}
 use Rattle.records.proofs.walk.Open.byte.Goals as goal
+use Rattle.records.proofs.walk.Open.byte.Goals.{Start}
 
-abbrev held : goal.Start → Present
+abbrev held : Start → Present
 held c = holding c.args.self c.args.bytes.now
 
 -- the record with the byte
-abbrev grown : goal.Start → Present
+abbrev grown : Start → Present
 grown c =
     let s = held c in
     record { start = s.start; n = s.n + 1; at = s.at; bytes = set s.bytes s.n c.args.b }
 
-counted : (c : goal.Start) → length (pending (held c)) ≡ c.args.self.n
+counted : (c : Start) → length (pending (held c)) ≡ c.args.self.n
 counted c = pending_length (held c) c.requires.0 (omega arith)
 
-whole : (c : goal.Start) → length (grown c).bytes ≡ 32
+whole : (c : Start) → length (grown c).bytes ≡ 32
 whole c = length-set (held c).bytes (held c).n c.args.b ∙ c.requires.0
 
-more : (c : goal.Start) → pending (grown c) ≡ pending (held c) ++ (c.args.b ∷ [])
+more : (c : Start) → pending (grown c) ≡ pending (held c) ++ (c.args.b ∷ [])
 more c = pending_grown (held c).bytes (held c).n c.args.b (omega (arith, c.requires.0))
 
-one_more : (c : goal.Start) → length (pending (grown c)) ≡ c.args.self.n + 1
+one_more : (c : Start) → length (pending (grown c)) ≡ c.args.self.n + 1
 one_more c = ap length (more c) ∙ length-append (pending (held c)) (c.args.b ∷ []) ∙ ap (λ (n : ℕ). n + 1) (counted c)
 
 closes :
-    (c : goal.Start) → c.args.self.n + 1 ≡ 32 → (es : List Event) →
+    (c : Start) → c.args.self.n + 1 ≡ 32 → (es : List Event) →
     ahead (held c) (Byte c.args.b ∷ es)
     ≡ closing c.args.self.start (pending (grown c)) ++ text (recs_from (c.args.self.start + 32) [] es)
 closes c h es =
@@ -41,7 +41,7 @@ closes c h es =
     rw (more c) (ahead_closes s.start (pending s) c.args.b es (ap (λ (n : ℕ). n + 1) (counted c) ∙ h))
 
 grows :
-    (c : goal.Start) → (c.args.self.n + 1 ≡ 32 → ⊥) → (es : List Event) →
+    (c : Start) → (c.args.self.n + 1 ≡ 32 → ⊥) → (es : List Event) →
     ahead (grown c) es ≡ ahead (held c) (Byte c.args.b ∷ es)
 grows c h es =
     let s = held c in

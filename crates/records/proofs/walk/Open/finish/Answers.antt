@@ -6,17 +6,16 @@ use native.Mathlib.Omega.{arith}
 use Rattle.records.specs.Steps.{Present, holding, pending}
 use Rattle.ground.proofs.Stores.{and_then}
 use Rattle.records.proofs.Steps.{close_text, closing_short, pending_length}
-use borrow.Author.Rules.{rules}
 use Rattle.records.proofs.walk.Open.finish.Goals as goal
+use Rattle.records.proofs.walk.Open.finish.Goals.{After-restart-last, Start}
 
-abbrev held : goal.Start → Present
+abbrev held : Start → Present
 held c = holding c.args.self c.args.bytes.now
 
-near : (c : goal.After-restart-last) → c.restart-last.result.at ≤ c.args.self.at + 76
+near : (c : After-restart-last) → c.restart-last.result.at ≤ c.args.self.at + 76
 near c =
-    let start = c in
-    let s = held start in
-    let n = pending_length s start.requires.0 (omega arith) in
+    let s = holding c.args.self c.args.bytes.now in
+    let n = pending_length s c.requires.0 (omega arith) in
     omega (arith, c.restart-last.ensures.wrote.next, closing_short s.start (pending s) (omega (arith, n)))
 
 pub put_line-requires : goal.put_line-requires

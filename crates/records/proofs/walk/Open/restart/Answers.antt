@@ -6,13 +6,13 @@ use native.Mathlib.Omega.{arith}
 use lib.ListN.{length}
 use Rattle.records.specs.Steps.{Present, holding, pending}
 use Rattle.records.proofs.Steps.{closing_line, pending_length, restarted_none}
-use borrow.Author.Rules.{rules}
 use Rattle.records.proofs.walk.Open.restart.Goals as goal
+use Rattle.records.proofs.walk.Open.restart.Goals.{Start}
 
-abbrev held : goal.Start → Present
+abbrev held : Start → Present
 held c = holding c.args.self c.args.bytes.now
 
-counted : (c : goal.Start) → length (pending (held c)) ≡ c.args.self.n
+counted : (c : Start) → length (pending (held c)) ≡ c.args.self.n
 counted c = pending_length (held c) c.requires.0 c.requires.1
 
 pub returns-then-n-eq0 : goal.returns-then-n-eq0

@@ -11,7 +11,6 @@ use Rattle.ground.specs.Words.{high, low}
 use Rattle.records.specs.Objects.{bytes_of}
 use Rattle.records.specs.Text.{Byte}
 use Rattle.records.proofs.Steps.{goes_then}
-use borrow.Author.Rules.{rules}
 use Rattle.records.proofs.walk.Open.value.Goals as goal
 
 two : (number width : ℕ) → width ≡ 16 → bytes_of number width ≡ high number ∷ low number ∷ []

@@ -1,6 +1,5 @@
 -- `values::pages::Page::is_zero` meets its contract.
 -- Assumes nothing.
-use borrow.Author.Rules.{rules}
 use Rattle.values.proofs.pages.Page.is_zero.Goals as goal
 
 pub returns-in-Known : goal.returns-in-Known

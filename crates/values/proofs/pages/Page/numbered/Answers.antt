@@ -3,7 +3,6 @@
 use borrow.Author.Tests.{lt-ltb, le-ltb}
 use Rattle.ground.specs.Choice.{pick}
 use Rattle.values.specs.Pages.{page_numbered}
-use borrow.Author.Rules.{rules}
 use Rattle.values.proofs.pages.Page.numbered.Goals as goal
 
 pub returns-then-n-lt256 : goal.returns-then-n-lt256

@@ -1,6 +1,5 @@
 -- `values::pages::Page::reaches` meets its contract.
 -- Assumes nothing.
-use borrow.Author.Rules.{rules}
 use Rattle.values.proofs.pages.Page.reaches.Goals as goal
 
 pub returns-in-Known : goal.returns-in-Known
