@@ -1,9 +1,6 @@
 -- `published::compare` meets its contract: each turn passes a line, so there are no more lines than characters.
 -- Assumes nothing.
 use Prim.Native.Nat.{◌≤◌, ◌-◌}
-use mathlib.Core.Logic.{⊎_elim}
-use native.Mathlib.Omega.{arith}
-use borrow.Author.Rules.{rules}
 use lib.ListN.{length}
 use Rattle.published.proofs.compare.Given as goal
 
