@@ -63,7 +63,7 @@ refused_alike s t d p h a =
     (a.0 ∙ sym was.0 ∙ p ∙ is.0, a.1 ∙ sym was.1 ∙ is.1)
 
 -- a return with something told beside its refusal, and the slice after it
-abbrev Tells : Said → (field r : ℕ) (d e : List ℕ) → Type 0
+abbrev pub Tells : Said → (field r : ℕ) (d e : List ℕ) → Type 0
 Tells s field r d e = (r ≡ beside (refusal_of s (length d)) field) × (e ≡ cells_after s d)
 
 -- handed on with the reason behind it

@@ -1,7 +1,7 @@
 -- Bytes at an address as the writer's tables say them: they are what the tables hold, the writer refuses them only for want of room, and the reader finds them
 -- again as one run.
 -- Assumes nothing.
-use borrow.Author.Tests.{lt-ltb, le-ltb}
+use borrow.Author.Tests.{le-ltb}
 use mathlib.Core.Path.{◌≡◌, refl, ap, ◌∙◌}
 use mathlib.Core.Bool.{Bool, true, false}
 use mathlib.Core.List.{List, [], ◌∷◌, ◌++◌, append-nil}
@@ -13,7 +13,7 @@ use lib.Seq.{take_all}
 use Rattle.ground.specs.Choice.{pick}
 use Rattle.ground.specs.Refusals.{no_room}
 use Rattle.ground.proofs.Choices.{pick_false}
-use Rattle.records.specs.Objects.{With, bytes_of, data_of, count_of, object_of, objects_of, fits, bad_values, faulty, too_far, byte_rows}
+use Rattle.records.specs.Objects.{With, count_of, object_of, objects_of, faulty, too_far, byte_rows}
 use Rattle.records.specs.Text.{close, recs, text, text_of}
 use Rattle.records.specs.Runs.{runs_of, pieces}
 use Rattle.records.specs.Fine.{Bytes}

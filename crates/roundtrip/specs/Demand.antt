@@ -1,7 +1,7 @@
 -- Demand 3, the theorem of this project: for every list of up to 1,024 operand records and every address, if laying accepts, then writing the text of what
 -- was laid, reading it and decoding from that address gives the same number of instructions with the same lengths and meanings in the same order and nothing
 -- left over. The meanings are demand 2's, from the records, never from bytes. Laying, writing, reading and decoding are what the public functions' contracts
--- say: `lay_of`, `written_of` and `text_of`, `read_of` and `runsIn`, `run_of`. A list with no row is laid as no byte: no run, no instruction, nothing left over.
+-- say: `lay_of`, `written_of` and `text_of`, `read_of` and `runs_in`, `run_of`. A list with no row is laid as no byte: no run, no instruction, nothing left over.
 -- 02 e: "Demand 3 holds for a list laid under one page, known or unknown throughout, and read with it"; and so it does for any list whose known pages are the
 -- reader's.
 use Rattle.std.specs.Prelude.{◌≡◌, true, List, [], ◌∷◌, ◌++◌, ℕ, ◌≤◌, ◌<◌, length}

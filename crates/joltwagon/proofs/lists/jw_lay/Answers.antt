@@ -20,4 +20,4 @@ returns c =
     let a = c.args in
     let l = c.lay-laid.ensures in
     laid a.list.now a.address a.out.now a.answer.now c.if-answer-lt4.false l.buffer
-    (said_as a.answer.now (laid_said_lem l.answer c.size-cells.ensures) c.hand.ensures)
+    (said_as a.answer.now (laid_said_lem l.answer c.size-cells.ensures) (c.hand.ensures.value, c.hand.ensures.answer_after))

@@ -19,4 +19,4 @@ returns c =
     let a = c.args in
     let r = c.read_text-read.ensures in
     read a.text.now a.bytes.now a.runs.now a.answer.now c.if-answer-lt8.false r
-    (said_as a.answer.now (read_said_lem r.answer c.size-sized.ensures c.size-counted.ensures) c.hand_both.ensures)
+    (said_as a.answer.now (read_said_lem r.answer c.size-sized.ensures c.size-counted.ensures) (c.hand_both.ensures.value, c.hand_both.ensures.answer_after))

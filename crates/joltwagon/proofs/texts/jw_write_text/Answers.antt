@@ -20,4 +20,4 @@ returns c =
     let a = c.args in
     let w = c.write_text-written.ensures in
     written a.objects.now a.values.now a.out.now a.answer.now c.if-answer-lt4.false w.out_after
-    (said_as a.answer.now (written_said_lem w.value c.size-cells.ensures) c.hand.ensures)
+    (said_as a.answer.now (written_said_lem w.value c.size-cells.ensures) (c.hand.ensures.value, c.hand.ensures.answer_after))

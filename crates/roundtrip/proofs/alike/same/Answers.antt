@@ -3,7 +3,6 @@
 use mathlib.Core.Path.{ap}
 use mathlib.Core.Bool.{Bool, ◌&&◌}
 use lib.Dec.{eqb}
-use borrow.Author.Rules.{rules}
 use Rattle.roundtrip.specs.Same.{same}
 use Rattle.roundtrip.proofs.alike.same.Goals as goal
 

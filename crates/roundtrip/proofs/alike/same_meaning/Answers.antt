@@ -1,6 +1,5 @@
 -- `roundtrip::alike::same_meaning` meets its contract.
 -- Assumes nothing.
-use borrow.Author.Rules.{rules}
 use Rattle.roundtrip.specs.Same.{same_meaning}
 use Rattle.roundtrip.proofs.alike.same_meaning.Goals as goal
 

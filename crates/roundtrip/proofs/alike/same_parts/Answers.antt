@@ -1,6 +1,5 @@
 -- `roundtrip::alike::same_parts` meets its contract.
 -- Assumes nothing.
-use borrow.Author.Rules.{rules}
 use Rattle.roundtrip.specs.Same.{same_parts}
 use Rattle.roundtrip.proofs.alike.same_parts.Goals as goal
 

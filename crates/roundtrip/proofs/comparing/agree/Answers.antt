@@ -1,14 +1,13 @@
 -- `roundtrip::comparing::agree` meets its contract. The invariant: what agreed so far, and what is left of the list and of the run, are the whole of both.
 -- Assumes nothing.
 use mathlib.Core.Path.{sym, ◌∙◌}
-use Prim.Native.Nat.{◌+◌, ◌-◌}
+use Prim.Native.Nat.{◌+◌}
 use native.Mathlib.Omega.{arith}
-use borrow.Author.Rules.{rules}
-use borrow.Author.Tests.{not-true, not-false}
 use Rattle.decoder.specs.Origin.{origin}
 use Rattle.laying.specs.Entries.{rows_in}
 use Rattle.roundtrip.proofs.Agreeing.{Agreeing, agreeing_first, agreeing_near, agreeing_more, agreeing_differs, agreeing_end}
 use Rattle.roundtrip.proofs.comparing.agree.Goals as goal
+use Rattle.roundtrip.proofs.comparing.agree.Goals.{Else-not-alike}
 
 pub loop-place-init : goal.loop-place-init
 loop-place-init c = let s = c in
@@ -41,7 +40,7 @@ returns-then-not-alike c = let s = c in
 
 -- a turn that agreed
 agreed_on :
-    (c : goal.After-struct_known-1) →
+    (c : Else-not-alike) →
     let s = c in
     let x = c in
     Agreeing s.args.list.now s.args.theirs.now (origin s.args.address s.args.page)
@@ -57,17 +56,17 @@ agreed_on c = let s = c in
     (sym e ∙ c.if-not-alike.false)
 
 pub overflow_add-at : goal.overflow_add-at
-overflow_add-at c = let a = agreed_on (goal.at.overflow_add-at c).After-struct_known-1 in omega (arith, a.other)
+overflow_add-at c = let a = agreed_on (goal.at.overflow_add-at c).Else-not-alike in omega (arith, a.other)
 
 pub overflow_add-place : goal.overflow_add-place
 unfolding rows_in
-overflow_add-place c = let a = agreed_on (goal.at.overflow_add-place c).After-struct_known-1 in omega (arith, a.rows)
+overflow_add-place c = let a = agreed_on (goal.at.overflow_add-place c).Else-not-alike in omega (arith, a.rows)
 
 pub loop-place-smaller : goal.loop-place-smaller
-loop-place-smaller c = let a = agreed_on (goal.at.loop-place-smaller c).After-struct_known-1 in omega (arith, a.rows)
+loop-place-smaller c = let a = agreed_on (goal.at.loop-place-smaller c).Else-not-alike in omega (arith, a.rows)
 
 pub loop-place-preserved : goal.loop-place-preserved
-loop-place-preserved c = agreed_on (goal.at.loop-place-preserved c).After-struct_known-1
+loop-place-preserved c = agreed_on (goal.at.loop-place-preserved c).Else-not-alike
 
 pub returns : goal.returns
 unfolding rows_in

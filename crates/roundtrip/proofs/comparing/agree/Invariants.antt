@@ -1,13 +1,9 @@
 -- `roundtrip::comparing::agree` meets its contract. The invariant: what agreed so far, and what is left of the list and of the run, are the whole of both.
 -- Assumes nothing.
-use mathlib.Core.Path.{sym, ◌∙◌}
-use Prim.Native.Nat.{◌+◌, ◌-◌}
-use native.Mathlib.Omega.{arith}
-use borrow.Author.Rules.{rules}
-use borrow.Author.Tests.{not-true, not-false}
+use Prim.Native.Nat.{◌-◌}
 use Rattle.decoder.specs.Origin.{origin}
 use Rattle.laying.specs.Entries.{rows_in}
-use Rattle.roundtrip.proofs.Agreeing.{Agreeing, agreeing_first, agreeing_near, agreeing_more, agreeing_differs, agreeing_end}
+use Rattle.roundtrip.proofs.Agreeing.{Agreeing}
 use Rattle.roundtrip.proofs.comparing.agree.Given as goal
 
 abbrev pub invariant-loop-place : goal.invariant-loop-place

@@ -3,7 +3,6 @@
 use mathlib.Core.Path.{◌∙◌}
 use native.Mathlib.Omega.{arith}
 use Rattle.roundtrip.proofs.Texts.{list_refused, list_laid}
-use borrow.Author.Rules.{rules}
 use Rattle.roundtrip.proofs.comparing.compare_list.Goals as goal
 
 pub returns-then-laid-ne0 : goal.returns-then-laid-ne0

@@ -3,7 +3,6 @@
 use mathlib.Core.Path.{sym, ◌∙◌}
 use lib.Seq.{length-take-le}
 use Rattle.roundtrip.proofs.Texts.{first_run, is_refused, is_none, is_elsewhere_lem, run_fits, run_inside, is_there}
-use borrow.Author.Rules.{rules}
 use Rattle.roundtrip.proofs.comparing.compare_text.Goals as goal
 
 pub returns-then-run-ne0 : goal.returns-then-run-ne0

@@ -1,6 +1,5 @@
 -- `roundtrip::comparing::meant` meets its contract.
 -- Assumes nothing.
-use borrow.Author.Rules.{rules}
 use Rattle.roundtrip.proofs.comparing.meant.Goals as goal
 
 pub returns : goal.returns

@@ -11,7 +11,6 @@ use Rattle.meanings.specs.ReadBack.{read_as}
 use Rattle.entries.specs.Entries.{entry_of}
 use Rattle.laying.specs.Entries.{entry_at}
 use Rattle.laying.specs.Laying.{built_at}
-use borrow.Author.Rules.{rules}
 use Rattle.roundtrip.proofs.comparing.meant_at.Goals as goal
 
 pub returns : goal.returns

@@ -1,16 +1,10 @@
 -- `roundtrip::writing::store_values` meets its contract: what is left of the bytes, stored after those that are, is the whole.
 -- Assumes nothing.
-use Prim.Native.Nat.{◌-◌}
-use native.Mathlib.Omega.{arith}
-use lib.ListN.{length}
-use Rattle.roundtrip.proofs.Values.{Storing, storing_first, storing_more, storing_end}
+use Rattle.roundtrip.proofs.Values.{storing_first, storing_more, storing_end}
 use Rattle.roundtrip.proofs.writing.store_values.Goals as goal
 
 pub loop-i-init : goal.loop-i-init
 loop-i-init c = storing_first _ _
-
-pub overflow_cast-value : goal.overflow_cast-value
-overflow_cast-value c = omega (arith, c.shared_slice_known-in-loop-i-1.given c.loop-i.i)
 
 pub loop-i-preserved : goal.loop-i-preserved
 loop-i-preserved c =

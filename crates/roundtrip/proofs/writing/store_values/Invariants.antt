@@ -1,9 +1,8 @@
 -- `roundtrip::writing::store_values` meets its contract: what is left of the bytes, stored after those that are, is the whole.
 -- Assumes nothing.
 use Prim.Native.Nat.{◌-◌}
-use native.Mathlib.Omega.{arith}
 use lib.ListN.{length}
-use Rattle.roundtrip.proofs.Values.{Storing, storing_first, storing_more, storing_end}
+use Rattle.roundtrip.proofs.Values.{Storing}
 use Rattle.roundtrip.proofs.writing.store_values.Given as goal
 
 abbrev pub invariant-loop-i : goal.invariant-loop-i

@@ -8,7 +8,6 @@ use Rattle.records.specs.Written.{written_of, buffer_of}
 use Rattle.roundtrip.specs.Demand.{object_for}
 use Rattle.records.proofs.ByteRows.{byte_rows_length}
 use Rattle.roundtrip.proofs.Values.{front_values}
-use borrow.Author.Rules.{rules}
 use Rattle.roundtrip.proofs.writing.write_bytes.Goals as goal
 
 pub slice_bounds-write_text-end-3 : goal.slice_bounds-write_text-end-3
@@ -19,4 +18,4 @@ pub returns : goal.returns
 returns c = let s = c in
     let w = c.write_text in
     let v = front_values s.args.bytes.now s.args.values.now _ s.requires.1 c.store_values.ensures in
-    let objects = object_for s.args.address s.args.bytes.now in record { value = w.ensures.0 ∙ ap (λ (l : List ℕ). written_of objects l (length s.args.out.now)) v; out_after = w.ensures.1 ∙ ap (λ (l : List ℕ). buffer_of objects l s.args.out.now) v }
+    let objects = object_for s.args.address s.args.bytes.now in record { value = w.ensures.value ∙ ap (λ (l : List ℕ). written_of objects l (length s.args.out.now)) v; out_after = w.ensures.out_after ∙ ap (λ (l : List ℕ). buffer_of objects l s.args.out.now) v }

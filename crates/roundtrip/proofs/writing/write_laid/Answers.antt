@@ -4,31 +4,30 @@ use mathlib.Core.Path.{sym}
 use native.Mathlib.Omega.{arith}
 use lib.ListN.{length}
 use Rattle.roundtrip.proofs.Fronts.{text_refused, buffer_refused, front_fits, front_size, text_written, buffer_written}
-use borrow.Author.Rules.{rules}
 use Rattle.roundtrip.proofs.writing.write_laid.Goals as goal
 
 pub returns-then-laid-ne0 : goal.returns-then-laid-ne0
 returns-then-laid-ne0 c = let s = c in
     let l = c.lay-laid in
-    record { answer = text_refused s.args.list.now s.args.address s.args.bytes.now l.result (omega arith) l.ensures.0 _ c.if-laid-ne0.true; buffer = buffer_refused s.args.list.now s.args.address s.args.bytes.now l.result (omega arith) l.ensures.0 _ c.if-laid-ne0.true }
+    record { answer = text_refused s.args.list.now s.args.address s.args.bytes.now l.result (omega arith) l.ensures.answer _ c.if-laid-ne0.true; buffer = buffer_refused s.args.list.now s.args.address s.args.bytes.now l.result (omega arith) l.ensures.answer _ c.if-laid-ne0.true }
 
 pub slice_bounds-write_bytes-end : goal.slice_bounds-write_bytes-end
 slice_bounds-write_bytes-end c = let s = c in
     let l = c.lay-laid in
-    front_fits s.args.list.now s.args.address s.args.bytes.now l.result (omega arith) l.ensures.0 (omega arith) _ l.ensures.1 c.if-laid-ne0.false
+    front_fits s.args.list.now s.args.address s.args.bytes.now l.result (omega arith) l.ensures.answer (omega arith) _ l.ensures.buffer c.if-laid-ne0.false
 
 pub slice_bounds-write_bytes-end-2 : goal.slice_bounds-write_bytes-end-2
 slice_bounds-write_bytes-end-2 c = let s = c in
     let l = c.lay-laid in
-    sym (front_size s.args.list.now s.args.address s.args.bytes.now l.result (omega arith) l.ensures.0 (omega arith) _ l.ensures.1 c.if-laid-ne0.false).0
+    sym (front_size s.args.list.now s.args.address s.args.bytes.now l.result (omega arith) l.ensures.answer (omega arith) _ l.ensures.buffer c.if-laid-ne0.false).0
 
 pub write_bytes-requires : goal.write_bytes-requires
 write_bytes-requires c = let s = c in
     let l = c.lay-laid in
-    let f = front_size s.args.list.now s.args.address s.args.bytes.now l.result (omega arith) l.ensures.0 (omega arith) _ l.ensures.1 c.if-laid-ne0.false in
+    let f = front_size s.args.list.now s.args.address s.args.bytes.now l.result (omega arith) l.ensures.answer (omega arith) _ l.ensures.buffer c.if-laid-ne0.false in
     (omega (arith, f.0, f.1), omega (arith, f.0, f.1))
 
 pub returns : goal.returns
 returns c = let s = c in
     let l = c.lay-laid in
-    let w = c.write_bytes in record { answer = text_written s.args.list.now s.args.address s.args.bytes.now l.result (omega arith) l.ensures.0 (omega arith) _ l.ensures.1 c.if-laid-ne0.false (length s.args.out.now) w.ensures.0; buffer = buffer_written s.args.list.now s.args.address s.args.bytes.now l.result (omega arith) l.ensures.0 (omega arith) _ l.ensures.1 c.if-laid-ne0.false s.args.out.now w.ensures.1 }
+    let w = c.write_bytes in record { answer = text_written s.args.list.now s.args.address s.args.bytes.now l.result (omega arith) l.ensures.answer (omega arith) _ l.ensures.buffer c.if-laid-ne0.false (length s.args.out.now) w.ensures.value; buffer = buffer_written s.args.list.now s.args.address s.args.bytes.now l.result (omega arith) l.ensures.answer (omega arith) _ l.ensures.buffer c.if-laid-ne0.false s.args.out.now w.ensures.out_after }
