@@ -1,7 +1,6 @@
 -- `replay::lines::end_of` meets its contract: the place stays between the line's start and the end of the text.
 -- Assumes nothing.
 use Prim.Native.Nat.{◌≤◌, ◌-◌}
-use native.Mathlib.Omega.{arith}
 use lib.ListN.{length}
 use Rattle.replay.proofs.lines.end_of.Given as goal
 

@@ -1,8 +1,6 @@
 -- `replay::texts::begins` meets its contract: the place stays within the line.
 -- Assumes nothing.
 use Prim.Native.Nat.{◌≤◌, ◌-◌}
-use native.Mathlib.Omega.{arith}
-use borrow.Author.Rules.{rules}
 use lib.ListN.{length}
 use Rattle.replay.proofs.texts.begins.Given as goal
 
