@@ -22,7 +22,7 @@ pub settle_in_single :
     SingleLeaving {B = List ℕ × List ℕ} 6 settle_in_kinds.ps settle_in_kinds.r (λ κs s. (s.1.1.1.1.0.now, s.1.1.1.1.1.0.now)) settle_in.Post
 settle_in_single κs a x y s t p q = (p.0 ∙ sym q.0, same_both (p.1.0 ∙ sym q.1.0) (p.1.1 ∙ sym q.1.1))
 
-pub too_many_single : Single 2 too_many_kinds.ps too_many_kinds.r too_many_lem.Post
+pub too_many_single : Single 2 too_many_kinds.ps too_many_kinds.r too_many.Post
 too_many_single κs a x y s t p q = p ∙ sym q
 
 pub store_labels_single : SingleLeaving 2 store_labels_kinds.ps store_labels_kinds.r (λ κs s. s.1.0.now) store_labels.Post

@@ -1,9 +1,7 @@
 -- `passes::any_overfull` meets its contract: none of the statements passed is too long.
 -- Assumes nothing.
-use mathlib.Core.Path.{◌≡◌, ◌∙◌, sym}
-use Rattle.passes.specs.Passes.{overfull_in}
+use mathlib.Core.Path.{◌∙◌, sym}
 use Rattle.passes.proofs.Rounds.{any_hit, any_miss, any_none}
-use borrow.Author.Rules.{rules}
 use Rattle.passes.proofs.any_overfull.Goals as goal
 
 pub returns-then-overfull : goal.returns-then-overfull

@@ -1,9 +1,7 @@
 -- `passes::any_overfull` meets its contract: none of the statements passed is too long.
 -- Assumes nothing.
-use mathlib.Core.Path.{◌≡◌, ◌∙◌, sym}
+use mathlib.Core.Path.{◌≡◌}
 use Rattle.passes.specs.Passes.{overfull_in}
-use Rattle.passes.proofs.Rounds.{any_hit, any_miss, any_none}
-use borrow.Author.Rules.{rules}
 use Rattle.passes.proofs.any_overfull.Given as goal
 
 abbrev pub invariant-loop-i : goal.invariant-loop-i

@@ -2,11 +2,10 @@
 -- Assumes nothing.
 use mathlib.Core.Path.{ap}
 use Rattle.passes.specs.Walks.{Walk, walk_to}
-use borrow.Author.Rules.{rules}
 use Rattle.passes.proofs.pass.Goals as goal
 
 pub returns : goal.returns
 unfolding walk_to
 returns c =
     let e = c.walk_all.ensures in
-    (ap (λ (w : Walk). w.state) e, (ap (λ (w : Walk). w.labels) e, ap (λ (w : Walk). w.sizes) e))
+    record { answer = ap (λ (w : Walk). w.state) e; table = ap (λ (w : Walk). w.labels) e; sizes = ap (λ (w : Walk). w.sizes) e }

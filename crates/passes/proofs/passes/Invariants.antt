@@ -1,14 +1,10 @@
 -- `passes::passes` meets its contract: the passes that are left, from here, give what all of them give.
 -- Assumes nothing.
-use mathlib.Core.Path.{◌≡◌, ◌∙◌, sym, ap}
+use mathlib.Core.Path.{◌≡◌}
 use Prim.Native.Nat.{◌-◌, ◌≤◌}
-use native.Mathlib.Omega.{arith}
 use lib.ListN.{length}
-use borrow.Author.Tests.{not-true, not-false}
 use Rattle.passes.specs.Walks.{source}
-use Rattle.passes.specs.Passes.{Outcome, most_passes, settle_of}
-use Rattle.passes.proofs.Rounds.{settle_again, settle_stop, settle_out}
-use borrow.Author.Rules.{rules}
+use Rattle.passes.specs.Passes.{most_passes, settle_of}
 use Rattle.passes.proofs.passes.Given as goal
 
 abbrev pub invariant-loop-made : goal.invariant-loop-made

@@ -3,13 +3,15 @@
 use mathlib.Core.Path.{◌∙◌, ap, sym}
 use native.Mathlib.Omega.{arith}
 use lib.ListN.{replicate}
+use Rattle.passes.specs.Walks.{source}
 use Rattle.passes.proofs.Rounds.{few, ends_at_once, ends_settled}
 use borrow.Author.Rules.{rules}
 use Rattle.passes.proofs.settle_in.Goals as goal
 
 pub returns-then-too_many : goal.returns-then-too_many
 returns-then-too_many c =
-    ends_at_once _ _ _ _ _ (sym c.too_many.ensures ∙ c.if-too_many.true) c.refused.ensures
+    let p = ends_at_once (source c.args.list.now c.args.items.now c.args.nodes.now) c.args.labels.now c.args.table.now c.args.sizes.now _ (sym c.too_many.ensures ∙ c.if-too_many.true) c.refused.ensures in
+    record { answer = p.0; table = p.1.0; sizes = p.1.1 }
 
 pub overflow_cast-none : goal.overflow_cast-none
 overflow_cast-none c = omega (arith, few _ _ (sym c.too_many.ensures ∙ c.if-too_many.false))
@@ -20,13 +22,10 @@ find_bearers-requires c =
 
 pub passes-requires : goal.passes-requires
 passes-requires c =
-    let found = c in
-    let tested = found in
-    let h = few _ _ (sym tested.too_many.ensures ∙ tested.if-too_many.false) in
-    (h, (h, found.find_bearers.ensures))
+    let h = few _ _ (sym c.too_many.ensures ∙ c.if-too_many.false) in
+    record { list_bound = h; list_in_bounds = h; firsts_value = c.find_bearers.ensures }
 
 pub returns : goal.returns
 returns c =
-    let began = c in
-    let tested = began in
-    ends_settled _ _ _ _ _ _ _ _ (sym tested.too_many.ensures ∙ tested.if-too_many.false) (search rules) began.begin.ensures c.passes.ensures.answer c.passes.ensures.table c.passes.ensures.sizes
+    let p = ends_settled (source c.args.list.now c.args.items.now c.args.nodes.now) c.args.labels.now c.args.table.now c.args.sizes.now _ _ _ _ (sym c.too_many.ensures ∙ c.if-too_many.false) (search rules) c.begin.ensures c.passes.ensures.answer c.passes.ensures.table c.passes.ensures.sizes in
+    record { answer = p.0; table = p.1.0; sizes = p.1.1 }

@@ -1,7 +1,6 @@
 -- `passes::too_many_lem` meets its contract, by those of what it calls.
 -- Assumes nothing.
 use Rattle.passes.specs.Passes.{too_many}
-use borrow.Author.Rules.{rules}
 use Rattle.passes.proofs.too_many.Goals as goal
 
 pub returns : goal.returns

@@ -1,11 +1,8 @@
 -- `passes::labels::begin` meets its contract: the rows stored, and those that are left, make the whole table.
 -- Assumes nothing.
-use mathlib.Core.Path.{◌≡◌, ◌∙◌, ap, sym}
-use Prim.Native.Nat.{◌≤◌, ◌-◌, ◌*◌}
+use mathlib.Core.Path.{◌∙◌, ap, sym}
 use lib.Dec.{ltb}
-use lib.ListN.{length}
-use Rattle.ground.specs.Stores.{put}
-use Rattle.passes.specs.Labels.{begun_rows, begun_table}
+use Rattle.passes.specs.Labels.{begun_table}
 use Rattle.passes.proofs.Tables.{begin_more, begin_done}
 use borrow.Author.Rules.{rules}
 use Rattle.passes.proofs.labels.begin.Goals as goal

@@ -1,13 +1,10 @@
 -- `passes::labels::begin` meets its contract: the rows stored, and those that are left, make the whole table.
 -- Assumes nothing.
-use mathlib.Core.Path.{◌≡◌, ◌∙◌, ap, sym}
+use mathlib.Core.Path.{◌≡◌}
 use Prim.Native.Nat.{◌≤◌, ◌-◌, ◌*◌}
-use lib.Dec.{ltb}
 use lib.ListN.{length}
 use Rattle.ground.specs.Stores.{put}
 use Rattle.passes.specs.Labels.{begun_rows, begun_table}
-use Rattle.passes.proofs.Tables.{begin_more, begin_done}
-use borrow.Author.Rules.{rules}
 use Rattle.passes.proofs.labels.begin.Given as goal
 
 abbrev pub invariant-loop-k : goal.invariant-loop-k

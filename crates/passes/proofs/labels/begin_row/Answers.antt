@@ -1,7 +1,6 @@
 -- `passes::labels::begin_row` meets its contract: three stores, one after the other.
 -- Assumes nothing.
 use Rattle.passes.proofs.Tables.{row_stored}
-use borrow.Author.Rules.{rules}
 use Rattle.passes.proofs.labels.begin_row.Goals as goal
 
 pub returns : goal.returns

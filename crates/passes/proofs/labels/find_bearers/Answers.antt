@@ -1,10 +1,7 @@
 -- `passes::labels::find_bearers` meets its contract: the table holds the first bearers among the statements passed.
 -- Assumes nothing.
-use mathlib.Core.Path.{◌≡◌, ◌∙◌}
-use Prim.Native.Nat.{◌≤◌}
-use lib.ListN.{length}
-use Rattle.statements.specs.Listing.{rows_of}
-use Rattle.passes.proofs.Bearers.{found, found_first, found_more, found_all}
+use mathlib.Core.Path.{◌∙◌}
+use Rattle.passes.proofs.Bearers.{found_first, found_more, found_all}
 use borrow.Author.Rules.{rules}
 use Rattle.passes.proofs.labels.find_bearers.Goals as goal
 

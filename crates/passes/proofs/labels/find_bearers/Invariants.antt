@@ -1,11 +1,10 @@
 -- `passes::labels::find_bearers` meets its contract: the table holds the first bearers among the statements passed.
 -- Assumes nothing.
-use mathlib.Core.Path.{◌≡◌, ◌∙◌}
+use mathlib.Core.Path.{◌≡◌}
 use Prim.Native.Nat.{◌≤◌}
 use lib.ListN.{length}
 use Rattle.statements.specs.Listing.{rows_of}
-use Rattle.passes.proofs.Bearers.{found, found_first, found_more, found_all}
-use borrow.Author.Rules.{rules}
+use Rattle.passes.proofs.Bearers.{found}
 use Rattle.passes.proofs.labels.find_bearers.Given as goal
 
 abbrev pub invariant-loop-i : goal.invariant-loop-i

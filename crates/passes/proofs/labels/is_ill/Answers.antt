@@ -1,7 +1,6 @@
 -- `passes::labels::is_ill` meets its contract: the test is the definition's, read from the table of first bearers.
 -- Assumes nothing.
 use Rattle.passes.proofs.Bearers.{ill_told}
-use borrow.Author.Rules.{rules}
 use Rattle.passes.proofs.labels.is_ill.Goals as goal
 
 pub returns : goal.returns

@@ -1,7 +1,6 @@
 -- `passes::labels::label_fits` meets its contract.
 -- Assumes nothing.
 use Rattle.passes.specs.Labels.{label_fits}
-use borrow.Author.Rules.{rules}
 use Rattle.passes.proofs.labels.label_fits.Goals as goal
 
 pub returns : goal.returns

@@ -1,11 +1,7 @@
 -- `passes::labels::labels_fit` meets its contract. The loop's invariant: those passed fit and those left do, exactly where all do.
 -- Assumes nothing.
-use mathlib.Core.Path.{◌≡◌, refl, ◌∙◌}
-use mathlib.Core.Bool.{◌&&◌}
-use native.Mathlib.Omega.{arith}
-use Rattle.passes.specs.Labels.{labels_fit}
+use mathlib.Core.Path.{◌∙◌}
 use Rattle.passes.proofs.Fitting.{fit_more, fit_end}
-use borrow.Author.Rules.{rules}
 use Rattle.passes.proofs.labels.labels_fit.Goals as goal
 
 pub loop-left-preserved : goal.loop-left-preserved

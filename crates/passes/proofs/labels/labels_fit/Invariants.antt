@@ -1,11 +1,8 @@
 -- `passes::labels::labels_fit` meets its contract. The loop's invariant: those passed fit and those left do, exactly where all do.
 -- Assumes nothing.
-use mathlib.Core.Path.{◌≡◌, refl, ◌∙◌}
+use mathlib.Core.Path.{◌≡◌}
 use mathlib.Core.Bool.{◌&&◌}
-use native.Mathlib.Omega.{arith}
 use Rattle.passes.specs.Labels.{labels_fit}
-use Rattle.passes.proofs.Fitting.{fit_more, fit_end}
-use borrow.Author.Rules.{rules}
 use Rattle.passes.proofs.labels.labels_fit.Given as goal
 
 abbrev pub invariant-loop-left : goal.invariant-loop-left

@@ -1,11 +1,9 @@
 -- `passes::labels::lay_over` meets its contract: the rows passed, and then what laying makes of the rest, are always the same list.
 -- Assumes nothing.
-use mathlib.Core.Path.{◌≡◌, ◌∙◌, sym}
-use Prim.Native.Nat.{◌≤◌, ◌-◌}
+use mathlib.Core.Path.{◌∙◌, sym}
 use native.Mathlib.Omega.{arith}
-use lib.ListN.{length, length-set}
-use Rattle.passes.specs.Labels.{laid_over}
-use Rattle.passes.proofs.Tables.{to_lay, lay_more, lay_done}
+use lib.ListN.{length-set}
+use Rattle.passes.proofs.Tables.{lay_more, lay_done}
 use borrow.Author.Rules.{rules}
 use Rattle.passes.proofs.labels.lay_over.Goals as goal
 

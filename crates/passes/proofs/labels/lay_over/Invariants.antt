@@ -1,12 +1,10 @@
 -- `passes::labels::lay_over` meets its contract: the rows passed, and then what laying makes of the rest, are always the same list.
 -- Assumes nothing.
-use mathlib.Core.Path.{◌≡◌, ◌∙◌, sym}
+use mathlib.Core.Path.{◌≡◌}
 use Prim.Native.Nat.{◌≤◌, ◌-◌}
-use native.Mathlib.Omega.{arith}
-use lib.ListN.{length, length-set}
+use lib.ListN.{length}
 use Rattle.passes.specs.Labels.{laid_over}
-use Rattle.passes.proofs.Tables.{to_lay, lay_more, lay_done}
-use borrow.Author.Rules.{rules}
+use Rattle.passes.proofs.Tables.{to_lay}
 use Rattle.passes.proofs.labels.lay_over.Given as goal
 
 abbrev pub invariant-loop-at : goal.invariant-loop-at

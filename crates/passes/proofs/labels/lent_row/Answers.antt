@@ -7,7 +7,6 @@ use borrow.Author.Tests.{lt-ltb, le-ltb}
 use Rattle.ground.specs.Choice.{pick}
 use Rattle.expressions.specs.Finding.{label_row, row_at}
 use Rattle.passes.specs.Steps.{lent_of}
-use borrow.Author.Rules.{rules}
 use Rattle.passes.proofs.labels.lent_row.Goals as goal
 
 pub returns-then-labels-k : goal.returns-then-labels-k

@@ -3,7 +3,6 @@
 use Rattle.statements.proofs.Sizes.{counted_ends}
 use Rattle.passes.specs.Walks.{effect_in}
 use Rattle.passes.proofs.Turns.{same_address, step_joins}
-use borrow.Author.Rules.{rules}
 use Rattle.passes.proofs.walk.step.Goals as goal
 
 pub is_ill-ill-requires : goal.is_ill-ill-requires

@@ -1,11 +1,7 @@
 -- `passes::walk::walk_all` meets its contract: the walk of what is left, from here, is the whole walk.
 -- Assumes nothing.
 use native.Mathlib.Omega.{arith}
-use mathlib.Core.Path.{◌≡◌, ◌∙◌, sym}
-use Prim.Native.Nat.{◌+◌, ◌≤◌}
-use lib.ListN.{length}
-use Rattle.statements.specs.Listing.{rows_of}
-use Rattle.passes.specs.Walks.{source, walk, begun, walk_of}
+use mathlib.Core.Path.{◌∙◌, sym}
 use Rattle.passes.proofs.Turns.{walk_more, walk_end}
 use borrow.Author.Rules.{rules}
 use Rattle.passes.proofs.walk.walk_all.Goals as goal
@@ -15,23 +11,20 @@ loop-left-init c = rw c.rows_of-left.ensures (search rules)
 
 pub step-s-requires : goal.step-s-requires
 step-s-requires c =
-    let start = c in
-    let few = start.requires.list_bound in
-    let sized = start.requires.list_in_bounds in
+    let few = c.requires.list_bound in
+    let sized = c.requires.list_in_bounds in
     let inv = c.loop-left.invariant in
-    (omega arith, (omega arith, (start.requires.firsts_value, inv.2)))
+    record { i_bound = omega arith; i_in_bounds = omega arith; firsts_value = c.requires.firsts_value; at_bound = inv.2 }
 
 pub loop-left-preserved : goal.loop-left-preserved
 loop-left-preserved c =
-    let stepped = c in
-    let turn = stepped in
-    let inv = turn.loop-left.invariant in (
+    let inv = c.loop-left.invariant in (
       search rules,
-      walk_more _ _ _ _ _ turn.loop-left-test.true stepped.step-s.ensures.walked ∙ inv.1,
-      stepped.step-s.ensures.bound,
-      stepped.step-s.auto.1.1.1.1.0 ∙ inv.3,
-      stepped.step-s.auto.1.1.1.1.1.0 ∙ inv.4,
-      stepped.step-s.auto.1.1.1.1.1.1.0 ∙ inv.5,
+      walk_more _ _ _ _ _ c.loop-left-test.true c.step-s.ensures.walked ∙ inv.1,
+      c.step-s.ensures.bound,
+      c.step-s.auto.labels ∙ inv.3,
+      c.step-s.auto.sizes ∙ inv.4,
+      c.step-s.auto.starts ∙ inv.5,
     )
 
 pub returns : goal.returns

@@ -1,13 +1,10 @@
 -- `passes::walk::walk_all` meets its contract: the walk of what is left, from here, is the whole walk.
 -- Assumes nothing.
-use native.Mathlib.Omega.{arith}
-use mathlib.Core.Path.{◌≡◌, ◌∙◌, sym}
+use mathlib.Core.Path.{◌≡◌}
 use Prim.Native.Nat.{◌+◌, ◌≤◌}
 use lib.ListN.{length}
 use Rattle.statements.specs.Listing.{rows_of}
 use Rattle.passes.specs.Walks.{source, walk, begun, walk_of}
-use Rattle.passes.proofs.Turns.{walk_more, walk_end}
-use borrow.Author.Rules.{rules}
 use Rattle.passes.proofs.walk.walk_all.Given as goal
 
 abbrev pub invariant-loop-left : goal.invariant-loop-left

@@ -1,6 +1,5 @@
 -- `passes::walk::State::address` meets its contract, by those of what it calls.
 -- Assumes nothing.
-use borrow.Author.Rules.{rules}
 use Rattle.passes.proofs.walk.State.address.Goals as goal
 
 pub returns : goal.returns

@@ -3,7 +3,6 @@
 use borrow.Author.Tests.{eq-eqb, ne_eqb}
 use Rattle.ground.specs.Choice.{pick}
 use Rattle.passes.specs.Walks.{judged}
-use borrow.Author.Rules.{rules}
 use Rattle.passes.proofs.walk.State.judge.Goals as goal
 
 pub returns-then-self-eq0 : goal.returns-then-self-eq0

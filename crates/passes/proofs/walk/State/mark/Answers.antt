@@ -2,15 +2,14 @@
 -- Assumes nothing.
 use mathlib.Core.Path.{refl}
 use Rattle.passes.proofs.Turns.{mark_set, mark_left}
-use borrow.Author.Rules.{rules}
 use Rattle.passes.proofs.walk.State.mark.Goals as goal
 
 pub returns-then-label-ill : goal.returns-then-label-ill
 returns-then-label-ill c =
-    let marked = c in
-    let taken = marked in
-    mark_set _ _ _ _ _ _ _ _ taken.label_at-label.ensures taken.requires taken.if-label-ill.true marked.address.ensures.answer
-    marked.address.ensures.table
+    let p = mark_set c.args.list.now c.args.labels.now c.address.new.labels c.args.i _ _ c.args.self c.address.result c.label_at-label.ensures c.requires c.if-label-ill.true c.address.ensures.answer c.address.ensures.table in
+    record { answer = p.0; table = p.1 }
 
 pub returns : goal.returns
-returns c = mark_left _ _ _ _ _ _ _ _ c.label_at-label.ensures c.requires c.if-label-ill.false refl refl
+returns c =
+    let p = mark_left c.args.list.now c.args.labels.now c.args.labels.now c.args.i _ _ c.args.self c.args.self c.label_at-label.ensures c.requires c.if-label-ill.false refl refl in
+    record { answer = p.0; table = p.1 }
