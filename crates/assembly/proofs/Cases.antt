@@ -3,7 +3,7 @@
 use mathlib.Core.Path.{◌≡◌, refl}
 use mathlib.Core.List.{List, [], ◌∷◌, ◌++◌, map}
 use Prim.Native.Nat.{ℕ}
-use lib.ListN.{length, replicate}
+use lib.ListN.{replicate}
 use Rattle.ground.specs.Choice.{pick}
 use Rattle.segments.specs.Segments.{holds_of, inserted, added_to, table_after}
 use Rattle.segments.specs.Segments as segments

@@ -33,7 +33,7 @@ use Rattle.laying.proofs.Decodes.{laid_decodes, laid_whole}
 use Rattle.statements.specs.declared.Statement.{Statement}
 use Rattle.statements.specs.declared.Statement.TheVariants.{Label, Instruction, Rmb, Fcb, Fdb, Fcc, Org, Setdp, Unknown}
 use Rattle.statements.specs.declared.Effect.{Effect}
-use Rattle.statements.specs.Listing.{none, rows_of, statement_at, entry_at}
+use Rattle.statements.specs.Listing.{rows_of, statement_at, entry_at}
 use Rattle.statements.specs.Effects.{instruction_effect, setdp_effect, effect_of, effect_at}
 use Rattle.statements.specs.Turns.{turned}
 use Rattle.statements.proofs.Told.{instruction_fresh}

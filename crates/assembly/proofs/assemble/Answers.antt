@@ -1,14 +1,15 @@
 -- `assembly::assemble` meets its contract: a refusal leaves everything, and else everything is stored.
 -- Assumes nothing.
 use mathlib.Core.Path.{refl}
+use Rattle.passes.specs.Walks.{source}
 use Rattle.assembly.specs.Steps.{plan_of}
 use Rattle.assembly.proofs.Endings.{fine_few, refused_answers, stored_answers}
-use borrow.Author.Rules.{rules}
 use Rattle.assembly.proofs.assemble.Goals as goal
 
 pub returns-then-plan-ne0 : goal.returns-then-plan-ne0
 returns-then-plan-ne0 c =
-    refused_answers _ _ _ _ _ c.prepare-plan.ensures.answer _ c.if-plan-ne0.true c.refused.ensures
+    let p = refused_answers (source c.args.list.now c.args.items.now c.args.nodes.now) c.args.labels.now c.args.objects.now c.args.values.now _ c.prepare-plan.ensures.answer _ c.if-plan-ne0.true c.refused.ensures in
+    record { answer = p.0; labels = p.1.0; objects = p.1.1.0; values = p.1.1.1 }
 
 pub store_all-requires : goal.store_all-requires
 unfolding plan_of
@@ -16,8 +17,7 @@ store_all-requires c = rw c.prepare-plan.ensures.answer (fine_few _ _)
 
 pub returns : goal.returns
 returns c =
-    let put = c in
-    let tested = put in
-    let prepared = tested in
-    stored_answers _ _ _ _ _ prepared.prepare-plan.ensures.answer tested.if-plan-ne0.false _ _ prepared.prepare-plan.ensures.table _ _ _ _
-    put.store_all.ensures.labels put.store_all.ensures.objects put.store_all.ensures.values refl
+    let plan = c.prepare-plan.ensures in
+    let put = c.store_all.ensures in
+    let p = stored_answers (source c.args.list.now c.args.items.now c.args.nodes.now) c.args.labels.now c.args.objects.now c.args.values.now _ plan.answer c.if-plan-ne0.false _ _ plan.table _ _ _ _ put.labels put.objects put.values refl in
+    record { answer = p.0; labels = p.1.0; objects = p.1.1.0; values = p.1.1.1 }

@@ -2,7 +2,6 @@
 -- Assumes nothing.
 use Rattle.statements.proofs.Sizes.{counted_ends}
 use Rattle.assembly.specs.Steps.{done_at}
-use borrow.Author.Rules.{rules}
 use Rattle.assembly.proofs.output.done_at.Goals as goal
 
 pub returns : goal.returns

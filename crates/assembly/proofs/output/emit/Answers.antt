@@ -3,8 +3,7 @@
 use mathlib.Core.Path.{ap}
 use Prim.Native.Nat.{ℕ}
 use native.Mathlib.Omega.{arith}
-use Rattle.passes.specs.Walks.{source}
-use Rattle.assembly.proofs.Turns.{Gone, gone_first, gone_ready, gone_more, gone_end}
+use Rattle.assembly.proofs.Turns.{gone_first, gone_ready, gone_more, gone_end}
 use Rattle.assembly.proofs.output.emit.Goals as goal
 
 pub loop-left-init : goal.loop-left-init
@@ -37,5 +36,6 @@ shape_of-values c = c.loop-left.invariant.values.size
 pub returns : goal.returns
 returns c =
     let loop = c.loop-left in
-    gone_end _ _ _ _ _ _ _ loop.s loop.i loop.left loop.invariant _ c.loop-left-test.false
-    (ap (λ (n : ℕ). record { objects = loop.s.objects; values = loop.s.values; length = n }) c.end.ensures)
+    let p = gone_end _ _ _ _ _ _ _ loop.s loop.i loop.left loop.invariant _ c.loop-left-test.false
+    (ap (λ (n : ℕ). record { objects = loop.s.objects; values = loop.s.values; length = n }) c.end.ensures) in
+    record { answer = p.0; objects = p.1.0; values = p.1.1 }

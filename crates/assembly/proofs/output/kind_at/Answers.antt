@@ -1,6 +1,5 @@
 -- `assembly::output::kind_at` meets its contract.
 -- Assumes nothing.
-use borrow.Author.Rules.{rules}
 use Rattle.assembly.proofs.output.kind_at.Goals as goal
 
 pub returns : goal.returns

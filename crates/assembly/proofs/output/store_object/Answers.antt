@@ -7,7 +7,6 @@ use borrow.Author.Tests.{eq-eqb, ne_eqb}
 use Rattle.ground.specs.Choice.{pick}
 use Rattle.assembly.specs.Objects.{object_row}
 use Rattle.assembly.proofs.Turns.{row_stored}
-use borrow.Author.Rules.{rules}
 use Rattle.assembly.proofs.output.store_object.Goals as goal
 
 pub returns-then-kind-eq-NONE : goal.returns-then-kind-eq-NONE

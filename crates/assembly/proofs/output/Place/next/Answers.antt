@@ -3,7 +3,6 @@
 use native.Mathlib.Omega.{arith}
 use Rattle.ground.specs.Choice.{pick}
 use Rattle.assembly.specs.Steps.{next_place}
-use borrow.Author.Rules.{rules}
 use Rattle.assembly.proofs.output.Place.next.Goals as goal
 
 pub returns-then-e : goal.returns-then-e

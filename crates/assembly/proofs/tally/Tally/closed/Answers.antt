@@ -3,7 +3,6 @@
 use borrow.Author.Tests.{eq-eqb, ne_eqb}
 use Rattle.ground.specs.Choice.{pick}
 use Rattle.assembly.specs.Steps.{closed_length}
-use borrow.Author.Rules.{rules}
 use Rattle.assembly.proofs.tally.Tally.closed.Goals as goal
 
 pub returns-then-self-eq0 : goal.returns-then-self-eq0

@@ -5,7 +5,6 @@ use Prim.Native.Nat.{ℕ, ◌+◌}
 use native.Mathlib.Omega.{arith}
 use Rattle.assembly.specs.Steps.{end_of}
 use Rattle.assembly.proofs.Tallies.{closed_short}
-use borrow.Author.Rules.{rules}
 use Rattle.assembly.proofs.tally.Tally.end.Goals as goal
 
 pub overflow_add-result : goal.overflow_add-result

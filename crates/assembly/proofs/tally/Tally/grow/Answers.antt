@@ -2,7 +2,6 @@
 -- Assumes nothing.
 use mathlib.Core.Path.{refl}
 use Rattle.assembly.specs.Steps.{grown}
-use borrow.Author.Rules.{rules}
 use Rattle.assembly.proofs.tally.Tally.grow.Goals as goal
 
 pub returns : goal.returns

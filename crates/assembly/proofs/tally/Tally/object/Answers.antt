@@ -4,10 +4,8 @@ use mathlib.Core.Path.{ap, ◌∙◌, sym}
 use native.Mathlib.Omega.{arith}
 use borrow.Author.Tests.{eq-eqb, ne_eqb}
 use Rattle.ground.proofs.Choices.{pick_true, pick_false}
-use Rattle.assembly.specs.declared.tally.Tally.{Tally}
 use Rattle.assembly.specs.Steps.{grown, tallied}
 use Rattle.assembly.proofs.Tallies.{started_short, started_next, tallied_short}
-use borrow.Author.Rules.{rules}
 use Rattle.assembly.proofs.tally.Tally.object.Goals as goal
 
 pub returns-then-kind-ne1 : goal.returns-then-kind-ne1

@@ -3,7 +3,6 @@
 use borrow.Author.Tests.{eq-eqb, ne_eqb}
 use Rattle.ground.specs.Choice.{pick}
 use Rattle.assembly.specs.Steps.{started}
-use borrow.Author.Rules.{rules}
 use Rattle.assembly.proofs.tally.Tally.start.Goals as goal
 
 pub returns-then-address-self : goal.returns-then-address-self
