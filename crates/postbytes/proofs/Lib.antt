@@ -1,5 +1,6 @@
 pub mod Tests
 pub mod Signs
+pub mod FiveBits
 pub mod Round
 pub mod Named
 pub mod Boxes

@@ -9,7 +9,7 @@ use native.Mathlib.Nat.{div-add-mod', min-le_left}
 use native.Mathlib.Omega.{arith}
 use lib.Dec.{eqb}
 use lib.ListN.{length, get_or, length-append, length-take}
-use borrow.Author.Tests.{eqb-true, leb-false, lt-ltb, le-ltb}
+use borrow.Author.Tests.{eqb-true, leb-false, le-ltb}
 use Rattle.ground.specs.Choice.{pick}
 use Rattle.ground.specs.Words.{plus, minus, high, low, word}
 use Rattle.ground.proofs.Choices.{by_test}
@@ -28,6 +28,7 @@ use Rattle.postbytes.specs.Reading.{direct_only, address_only, high_of, shape_of
 use Rattle.postbytes.specs.Meanings.{meaning_of, Means}
 use Rattle.ground.proofs.Tests.{neither_left, neither_right}
 use Rattle.postbytes.proofs.Tests.{indexing, known_step}
+use Rattle.postbytes.proofs.FiveBits.{Has, five_shape}
 use Rattle.postbytes.proofs.Signs.{near_back, signed_fits, signed_back}
 
 -- what was written and not refused is read as m
@@ -36,12 +37,6 @@ Back e m = e.refusal ≡ 0 → (t : List ℕ) → Means (written e ++ t) e.lengt
 
 refused : (k : ℕ) (m : Addressing) → Back (refuse (suc k)) m
 refused k m e = absurd (omega arith)
-
--- a postbyte of a shape that has no bytes, one, or two, is read as that shape filled with them
-record Has (p n : ℕ) (s : Shape) : Type 0 where
-  shape : shape_of p ≡ s
-  defined : is_defined s ≡ true
-  extra : extra_of s ≡ n
 
 back_alone : {m : Addressing} {s : Shape} (p : ℕ) → Has p 0 s → ((b c : ℕ) → fill_of s b c ≡ m) → Back (alone p) m
 back_alone {m} {s} p h f _ t = record {
@@ -132,19 +127,6 @@ back_sized v {p} {q} m hp hq f g =
     by_test (λ (e : Encoded). Back e (m n)) (eqb v.width 8)
     (λ w. back_byte p (low n) hp (λ c. f (low n) c ∙ ap m (narrow_back v w)))
     (λ w. back_word q n hq (g (high n) (low n) ∙ ap m (div-add-mod' n 256)))
-
-five_shape : (r n : ℕ) → not_indexing r ≡ false → Has (n % 32 + register_bits r) 0 (shape.FiveBits r (extended 5 (n % 32)))
-unfolding shape_of pick
-five_shape r n hr =
-    let b = indexing r hr in
-    let p = n % 32 + register_bits r in
-    let e₁ : X + p / 32 % 4 ≡ r = omega arith in
-    let e₂ : p % 32 ≡ n % 32 = omega arith in
-    record {
-      shape = simp (lt-ltb p 128 (omega arith), e₁, e₂);
-      defined = refl;
-      extra = refl;
-    }
 
 back_five : (r n : ℕ) (ind : Bool) → not_indexing r ≡ false → n < 2 ^ 16 → five_bits ind n ≡ true → Back (alone (n % 32 + register_bits r)) (Offset r ind n)
 back_five r n true hr h e = absurd (false≢true e)
