@@ -1,7 +1,7 @@
 // Reads what the programs compare: a file, into a buffer that is lent.
 #![tactic(auto)]
 
-ghost use Rattle.std.specs.Prelude.{IfOk};
+ghost use Rattle.std.specs.Prelude.{◌≡◌, IfOk, length};
 ghost use Rattle.std.specs.Counts.{IsPrefixLen};
 
 use std::io::Read;
@@ -9,8 +9,10 @@ use std::rt::Files;
 use std::{fs, io};
 
 // Reads until the buffer is full or the input ends, and returns how many bytes it put at the start of the buffer.
+// Where a read fails, what the buffer holds is not said.
 pub fn read_full(input: &mut impl Read, buf: &mut [u8]) -> io::Result<usize>
-    ensures { IfOk result (λ n. IsPrefixLen n buf.new) }
+    ensures ok { IfOk result (λ n. IsPrefixLen n buf.new) }
+    ensures kept { length buf.new ≡ length buf.old }
 {
     let mut done: usize = 0;
     while done < buf.len() {
@@ -25,7 +27,8 @@ pub fn read_full(input: &mut impl Read, buf: &mut [u8]) -> io::Result<usize>
 
 // The same of the file with that name.
 pub fn read_file(rt: &impl Files, name: &str, buf: &mut [u8]) -> io::Result<usize>
-    ensures { IfOk result (λ n. IsPrefixLen n buf.new) }
+    ensures ok { IfOk result (λ n. IsPrefixLen n buf.new) }
+    ensures kept { length buf.new ≡ length buf.old }
 {
     read_full(&mut fs::open(rt, name)?, buf)
 }

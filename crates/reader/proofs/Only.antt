@@ -43,7 +43,7 @@ read_run_single κs a x y s t p q = read_run_only p q
 pub run_at_single : Single 1 run_at_kinds.ps run_at_kinds.r run_at.Post
 run_at_single κs a x y s t p q = p ∙ sym q
 
--- the clause of a function that is walked by hand says of its result that it is x, and nothing else
+-- the clause of a function that holds a reference says of its result that it is x, and nothing else
 abbrev Says : {M : Type 1} {R : Type 0} (𝓤 : Ura M) → (R → SProp 𝓤) → R → Type 2
 Says 𝓤 P x = (r : _) → P r ≡ fact 𝓤 (r ≡ x)
 

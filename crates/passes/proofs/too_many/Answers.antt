@@ -1,4 +1,4 @@
--- `passes::too_many_lem` meets its contract, by those of what it calls.
+-- `passes::too_many` meets its contract, by those of what it calls.
 -- Assumes nothing.
 use Rattle.passes.specs.Passes.{too_many}
 use Rattle.passes.proofs.too_many.Goals as goal
