@@ -1,6 +1,5 @@
 -- `joltwagon::placing::jw_add_segment` meets its contract.
 -- Assumes nothing.
-use borrow.Author.Rules.{rules}
 use native.Mathlib.Omega.{arith}
 use Rattle.joltwagon.proofs.Starts.{none_added, count_fits, added, kept_out}
 use Rattle.joltwagon.specs.Placing.{segments_after}
