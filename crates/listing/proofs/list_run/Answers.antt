@@ -3,7 +3,7 @@
 use Prim.Native.Nat.{◌+◌, ◌-◌}
 use lib.ListN.{length, drop, length-drop}
 use lib.Seq.{length-take-le}
-use Rattle.listing.proofs.Running.{size_there, Running, running_first, running_next, running_refused, running_end}
+use Rattle.listing.proofs.Running.{size_there, running_first, running_next, running_refused, running_end}
 use native.Mathlib.Omega.{arith}
 use Rattle.listing.proofs.list_run.Goals as goal
 
