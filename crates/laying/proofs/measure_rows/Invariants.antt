@@ -1,6 +1,6 @@
 -- `laying::measure_rows` meets its contract. The invariant: what was measured, before what is left, is the whole.
 -- Assumes nothing.
-use Prim.Native.Nat.{◌+◌, ◌-◌, ◌*◌, ◌≤◌}
+use Prim.Native.Nat.{◌+◌, ◌*◌, ◌≤◌}
 use lib.ListN.{length}
 use Rattle.laying.specs.Entries.{entries_from, entries_of}
 use Rattle.laying.specs.Laying.{lay_from}

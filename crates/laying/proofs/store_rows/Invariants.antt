@@ -1,7 +1,7 @@
 -- `laying::store_rows` meets its contract. The invariant: what is left of the bytes, stored after those that are, is the whole.
 -- Assumes nothing.
 use mathlib.Core.Path.{◌≡◌}
-use Prim.Native.Nat.{◌+◌, ◌*◌, ◌-◌, ◌≤◌}
+use Prim.Native.Nat.{◌+◌, ◌*◌, ◌≤◌}
 use lib.ListN.{length}
 use Rattle.ground.specs.Stores.{put}
 use Rattle.laying.specs.Entries.{entries_from, entries_of}

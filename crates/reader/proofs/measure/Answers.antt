@@ -4,7 +4,6 @@ use Rattle.reader.specs.Steps.{start}
 use Rattle.reader.specs.declared.Tally.{Tally}
 use Rattle.reader.proofs.Tallies.{end_here, broken_here, fits_here, walk_on, total_on, size_total}
 use mathlib.Core.Path.{sym, ap, ◌∙◌}
-use Prim.Native.Nat.{◌-◌}
 use native.Mathlib.Omega.{arith}
 use lib.ListN.{drop}
 use Rattle.reader.specs.Lines.{records_in}

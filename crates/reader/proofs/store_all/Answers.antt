@@ -1,6 +1,5 @@
 -- `reader::store_all` meets its contract: what is left of the text, stored after what is, is the whole.
 -- Assumes nothing.
-use Prim.Native.Nat.{◌-◌}
 use native.Mathlib.Omega.{arith}
 use Rattle.reader.specs.Steps.{start}
 use Rattle.reader.proofs.Tallies.{fine_line, store_first, store_end, store_broken, store_room, store_on, fits_here}

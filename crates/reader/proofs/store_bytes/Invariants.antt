@@ -1,7 +1,7 @@
 -- `reader::store_bytes` meets its contract: what is left of the bytes, stored after those that are, is the whole.
 -- Assumes nothing.
 use mathlib.Core.Path.{◌≡◌}
-use Prim.Native.Nat.{◌+◌, ◌-◌, ◌≤◌}
+use Prim.Native.Nat.{◌+◌, ◌≤◌}
 use lib.ListN.{length, take, drop}
 use Rattle.ground.specs.Stores.{put}
 use Rattle.reader.specs.Digits.{bytes_in}

@@ -1,6 +1,5 @@
 -- `reader::runs::follow_on` meets its contract: a run goes on from where it stands as it does from its start.
 -- Assumes nothing.
-use Prim.Native.Nat.{◌-◌}
 use native.Mathlib.Omega.{arith}
 use Rattle.reader.proofs.Stretches.{going_first, stops_end, stops_broken, stops_off, goes_on_lem}
 use Rattle.reader.proofs.Tallies.{fits_here}

@@ -1,6 +1,5 @@
 -- `reader::runs::store_run` meets its contract: the bytes of the run so far are stored, and each line that follows on adds its own.
 -- Assumes nothing.
-use Prim.Native.Nat.{◌-◌}
 use native.Mathlib.Omega.{arith}
 use Rattle.reader.proofs.Stretches.{filling_first, filling_begun, filling_room, filled_end, filled_broken, filled_off, filling_on}
 use Rattle.reader.proofs.Tallies.{fits_here}

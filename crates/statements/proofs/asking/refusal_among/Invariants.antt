@@ -1,7 +1,7 @@
 -- `statements::asking::refusal_among` meets its contract: asked from the last to the first, the refusal so far is that of the items already asked.
 -- Assumes nothing.
 use mathlib.Core.Path.{◌≡◌}
-use Prim.Native.Nat.{◌-◌, ◌≤◌}
+use Prim.Native.Nat.{◌≤◌}
 use Rattle.statements.specs.Order.{earliest}
 use Rattle.statements.specs.Asking.{refusals_in}
 use Rattle.statements.proofs.Turns as turns
