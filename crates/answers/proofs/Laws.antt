@@ -18,19 +18,19 @@ use Rattle.answers.specs.Steps.{late_of}
 
 -- a call's return and the slice after it are those of what it says
 abbrev pub Answers : Said → (r : ℕ) (d e : List ℕ) → Type 0
-Answers s r d e = (r ≡ refusal_of s (length d)) × (e ≡ cells_after s d)
+Answers s r d e = record { value : r ≡ refusal_of s (length d); answer_after : e ≡ cells_after s d }
 
 module _ (s : Said) (d : List ℕ) where
   pub refused : (s.refusal ≡ 0 → ⊥) → Answers s s.refusal d d
   unfolding refusal_of lent_after cells_after pick
-  refused h = let t = ne_eqb _ _ h in (rw t, rw (t, t))
+  refused h = let t = ne_eqb _ _ h in record { value = rw t; answer_after = rw (t, t) }
 
   pub too_short_lem : s.refusal ≡ 0 → length d < length s.cells → Answers s no_room d d
   unfolding refusal_of lent_after cells_after pick
   too_short_lem h k =
       let t = eq-eqb _ _ h in
       let u = lt-ltb _ _ k in
-      (rw (t, u), rw (t, u))
+      record { value = rw (t, u); answer_after = rw (t, u) }
 
   pub handed :
       {e : List ℕ} → s.refusal ≡ 0 → length s.cells ≤ length d → e ≡ put d 0 s.cells →
@@ -39,7 +39,7 @@ module _ (s : Said) (d : List ℕ) where
   handed h k p =
       let t = eq-eqb _ _ h in
       let u = le-ltb _ _ k in
-      (rw (t, u), rw (t, u) (p ∙ put_front d s.cells k))
+      record { value = rw (t, u); answer_after = rw (t, u) (p ∙ put_front d s.cells k) }
 
 -- cells stored in two parts
 pub in_two : (d xs ys : List ℕ) {e f : List ℕ} → e ≡ put d 0 xs → f ≡ put e (length xs) ys → f ≡ put d 0 (xs ++ ys)
@@ -68,7 +68,7 @@ late_refuses n = by_test (λ (m : ℕ). eqb m 0 ≡ false) (eqb n 0) (λ _. refl
 pub late_leaves : (s : Said) (d new x : List ℕ) → length d < length s.cells → x ≡ lent_after s d new x
 unfolding lent_after
 late_leaves s d new x h =
-    sym (pick_false new x (ap (λ (n : ℕ). eqb n 0) (sym (late_answers s d h).0) ∙ late_refuses s.refusal))
+    sym (pick_false new x (ap (λ (n : ℕ). eqb n 0) (sym (late_answers s d h).value) ∙ late_refuses s.refusal))
 
 -- with cells enough, the refusal is the call's own
 roomy : (s : Said) (k : ℕ) → length s.cells ≤ k → refusal_of s k ≡ s.refusal

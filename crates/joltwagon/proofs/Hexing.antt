@@ -98,12 +98,12 @@ module _ (src : Source) (l x y z d : List ℕ) where
   unwritten {r} {q} {l'} {x'} {y'} h p pl px py e =
       let s = late_answers (hex_said told) d h in
       let no : eqb (why 0) 0 ≡ false = no_room_lem src l (length x) (length y) in record {
-        returned = late_return p e ∙ ap (λ (k : ℕ). with_passes k told.passes) s.0;
+        returned = late_return p e ∙ ap (λ (k : ℕ). with_passes k told.passes) s.value;
         labels = pl ∙ pick_false _ _ no ∙ late_leaves (hex_said told) d (laid_over (passed_of src l).table l) l h;
         objects = px ∙ pick_false _ _ no ∙ late_leaves (hex_said told) d (onto (objects_of src l) x) x h;
         values = py ∙ pick_false _ _ no ∙ late_leaves (hex_said told) d (onto (values_of src l) y) y h;
         text = late_leaves (hex_said told) d (onto (settled_text src l) z) z h;
-        cells = s.1;
+        cells = s.answer_after;
       }
 
   -- what `hex` leaves is what its own refusal says
@@ -124,10 +124,10 @@ module _ (src : Source) (l x y z d : List ℕ) where
       Answers (hex_said told) f d d' → r ≡ with_passes f q.passes → HexWritten src l x y z d r l' x' y' z' d'
   unfolding hex_said size_cells
   written {r} {f} {q} {l'} {x'} {y'} {z'} {d'} h p pl px py pz a e = record {
-    returned = e ∙ ap (λ (k : ℕ). with_passes k q.passes) a.0 ∙ ap (λ (b : Hexed). with_passes (answers.refusal_of (hex_said told) (length d)) b.passes) p;
+    returned = e ∙ ap (λ (k : ℕ). with_passes k q.passes) a.value ∙ ap (λ (b : Hexed). with_passes (answers.refusal_of (hex_said told) (length d)) b.passes) p;
     labels = own_leaves (hex_said told) d (laid_over (passed_of src l).table l) l h (pl ∙ own_labelled);
     objects = own_leaves (hex_said told) d (onto (objects_of src l) x) x h (px ∙ own_stored (objects_of src l) x);
     values = own_leaves (hex_said told) d (onto (values_of src l) y) y h (py ∙ own_stored (values_of src l) y);
     text = own_leaves (hex_said told) d (onto (settled_text src l) z) z h (pz ∙ own_stored (settled_text src l) z);
-    cells = a.1;
+    cells = a.answer_after;
   }

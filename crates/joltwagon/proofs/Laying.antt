@@ -28,9 +28,9 @@ module _ (list : List ℕ) (address : ℕ) (x d : List ℕ) where
   unfolding laid_said size_cells
   unlaid {r} h e =
       let s = late_answers (laid_said told) d h in record {
-        refusal = e ∙ s.0;
+        refusal = e ∙ s.value;
         bytes = late_leaves (laid_said told) d (buffer_of (lay_of list address (length x)) x) x h;
-        cells = s.1;
+        cells = s.answer_after;
       }
 
   pub laid :
@@ -38,7 +38,7 @@ module _ (list : List ℕ) (address : ℕ) (x d : List ℕ) where
       ListLaid list address x d r e f
   unfolding laid_said size_cells
   laid {r} {e} {f} h p a = record {
-    refusal = a.0;
+    refusal = a.value;
     bytes = own_leaves (laid_said told) d (buffer_of (lay_of list address (length x)) x) x h (p ∙ own_buffer (lay_of list address (length x)) x);
-    cells = a.1;
+    cells = a.answer_after;
   }

@@ -60,10 +60,10 @@ module _ (text x y d : List ℕ) where
   unfolding read_said size_cells
   unread {r} h e =
       let s = late_answers (read_said told) d h in record {
-        refusal = e ∙ late_read text 0 0 (length x) (length y) ∙ s.0;
+        refusal = e ∙ late_read text 0 0 (length x) (length y) ∙ s.value;
         bytes = late_leaves (read_said told) d (onto (bytes_of (runs_in text)) x) x h;
         rows = late_leaves (read_said told) d (onto (rows_of (runs_in text)) y) y h;
-        cells = s.1;
+        cells = s.answer_after;
       }
 
   pub read :
@@ -71,8 +71,8 @@ module _ (text x y d : List ℕ) where
       TextRead text x y d r x' y' d'
   unfolding read_said size_cells handed
   read {r} {q} {x'} {y'} {d'} h i a = record {
-    refusal = a.0;
+    refusal = a.value;
     bytes = own_leaves (read_said told) d (onto (bytes_of (runs_in text)) x) x h (i.bytes ∙ onto_picked bytes_of refl _ (runs_in text) x);
     rows = own_leaves (read_said told) d (onto (rows_of (runs_in text)) y) y h (i.rows ∙ onto_picked rows_of refl _ (runs_in text) y);
-    cells = a.1;
+    cells = a.answer_after;
   }

@@ -49,22 +49,22 @@ room = replicate 25 0
 module _ (b : Built) {r : ℕ} {l : List ℕ} (a : Answers (built_said b) r room l) where
   own_refusal : r ≡ b.refusal
   unfolding refusal_of built_said front_cells kept_cells pick
-  own_refusal = a.0 ∙ by_test (λ (n : ℕ). n ≡ b.refusal) (eqb b.refusal 0) (λ t. sym (eqb-true _ _ t)) (λ _. refl)
+  own_refusal = a.value ∙ by_test (λ (n : ℕ). n ≡ b.refusal) (eqb b.refusal 0) (λ t. sym (eqb-true _ _ t)) (λ _. refl)
 
   own_cells : b.refusal ≡ 0 → l ≡ (built_said b).cells
   unfolding refusal_of lent_after cells_after built_said front_cells kept_cells pick
-  own_cells z = a.1 ∙ rw z
+  own_cells z = a.answer_after ∙ rw z
 
 -- of what is refused, the cells do not count
 refused_alike : (s t : Said) (d : List ℕ) {r : ℕ} {e : List ℕ} → s.refusal ≡ t.refusal → (t.refusal ≡ 0 → ⊥) → Answers s r d e → Answers t r d e
 refused_alike s t d p h a =
     let was = refused s d (λ z. h (sym p ∙ z)) in
     let is = refused t d h in
-    (a.0 ∙ sym was.0 ∙ p ∙ is.0, a.1 ∙ sym was.1 ∙ is.1)
+    record { value = a.value ∙ sym was.value ∙ p ∙ is.value; answer_after = a.answer_after ∙ sym was.answer_after ∙ is.answer_after }
 
 -- a return with something told beside its refusal, and the slice after it
-abbrev pub Tells : Said → (field r : ℕ) (d e : List ℕ) → Type 0
-Tells s field r d e = (r ≡ beside (refusal_of s (length d)) field) × (e ≡ cells_after s d)
+abbrev Tells : Said → (field r : ℕ) (d e : List ℕ) → Type 0
+Tells s field r d e = record { value : r ≡ beside (refusal_of s (length d)) field; answer_after : e ≡ cells_after s d }
 
 -- handed on with the reason behind it
 explained_said_lem :
@@ -86,7 +86,7 @@ module _ (e : Explained) (d : List ℕ) {n r : ℕ} {build reason d' : List ℕ}
       Tells (explained_said e) (parts_of e.reason).field x d d'
   explained {x} {p} q f h t =
       let s = by_outcome (eqb e.built.refusal 0) refl (f ∙ ap reason_cells q) h in
-      (t ∙ ap (λ (k : ℕ). beside k p.field) s.0 ∙ ap (λ (k : Parts). beside (refusal_of (explained_said e) (length d)) k.field) q, s.1)
+      record { value = t ∙ ap (λ (k : ℕ). beside k p.field) s.value ∙ ap (λ (k : Parts). beside (refusal_of (explained_said e) (length d)) k.field) q; answer_after = s.answer_after }
 
 -- ---- the row
 module _ (row : List ℕ) (address : ℕ) (d : List ℕ) {r : ℕ} where
@@ -94,7 +94,7 @@ module _ (row : List ℕ) (address : ℕ) (d : List ℕ) {r : ℕ} where
   unfolding why_said field_told
   no_row t e =
       let s = spoken.no_row (explained_said (explained_of row address)) d t in
-      (e ∙ ap (λ (k : ℕ). beside k 0) s.0 ∙ ap (beside (refusal_of (why_said row address) (length d))) (sym (pick_false _ _ t)), s.1)
+      record { value = e ∙ ap (λ (k : ℕ). beside k 0) s.value ∙ ap (beside (refusal_of (why_said row address) (length d))) (sym (pick_false _ _ t)); answer_after = s.answer_after }
 
   pub a_row :
       {x : Explained} {e : List ℕ} → leb 21 (length row) ≡ true → x ≡ explained_of row address → Tells (explained_said x) (parts_of x.reason).field r d e →

@@ -41,9 +41,9 @@ module _ (os vs out d : List ℕ) where
   unfolding written_said size_cells
   unwritten {r} h e =
       let s = late_answers (written_said told) d h in record {
-        refusal = e ∙ late_written os vs longest (length out) ∙ s.0;
+        refusal = e ∙ late_written os vs longest (length out) ∙ s.value;
         text = late_leaves (written_said told) d (buffer_of os vs out) out h;
-        cells = s.1;
+        cells = s.answer_after;
       }
 
   -- the buffer is as it was beside a refusal of the writer's own
@@ -59,7 +59,7 @@ module _ (os vs out d : List ℕ) where
       TextWritten os vs out d r e f
   unfolding written_said size_cells
   written {r} {e} {f} h p a = record {
-    refusal = a.0;
+    refusal = a.value;
     text = own_leaves (written_said told) d (buffer_of os vs out) out h (p ∙ own_buffer);
-    cells = a.1;
+    cells = a.answer_after;
   }

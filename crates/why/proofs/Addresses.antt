@@ -1,9 +1,8 @@
 -- An address is extended exactly if one of the three facts holds, and a byte longer exactly then.
 -- Assumes nothing.
-use mathlib.Core.Path.{◌≡◌, refl, sym, ap, subst, ◌∙◌}
+use mathlib.Core.Path.{◌≡◌, refl, sym, ap, ◌∙◌}
 use mathlib.Core.Bool.{Bool, true, false, not, ◌&&◌, ◌||◌, false≢true}
 use Prim.Native.Nat.{ℕ, ◌+◌, ◌/◌}
-use native.Mathlib.Omega.{arith}
 use lib.Dec.{eqb}
 use borrow.Author.Tests.{eqb-true}
 use Rattle.ground.specs.Choice.{pick}
@@ -14,12 +13,9 @@ use Rattle.values.specs.Pages.{reaches, is_unknown}
 use Rattle.rows.specs.Forms.{direct, extended, relative}
 use Rattle.rows.specs.Lookup.{has_form_of}
 use Rattle.rows.specs.Sizes.{number_size_of}
-use Rattle.instruction.specs.declared.Operand.{Operand}
-use Rattle.instruction.specs.declared.Values.{Values}
 use Rattle.instruction.specs.declared.Record.{Record}
 use Rattle.instruction.specs.declared.Chosen.{Chosen}
 use Rattle.instruction.specs.declared.Built.{Built}
-use Rattle.instruction.specs.declared.Argument.TheVariants.{Number}
 use Rattle.instruction.specs.Names.{mode_offset, mode_pc_relative, mode_extended}
 use Rattle.instruction.specs.Forms.{becomes_direct, extended_form, form_of, needs_value}
 use Rattle.instruction.specs.Choosing.{anew_as, anew_of, address_of, choose_of}
@@ -30,9 +26,9 @@ use Rattle.instruction.proofs.Rows.{direct_extended, direct_size, extended_size}
 use Rattle.instruction.proofs.Sizes.{number_length}
 use Rattle.why.specs.declared.Reason.{Reason}
 use Rattle.why.specs.declared.Reason.TheVariants.{Plain, Address, Branch, PcRelative, Offset, Refused}
-use Rattle.why.specs.Reasons.{elsewhere, is_forced, is_page_unknown, is_elsewhere, address_reason, code_bytes, branch_reason, relative_reason, offset_reason, extended_reason, reason_for}
+use Rattle.why.specs.Reasons.{elsewhere, address_reason, code_bytes, branch_reason, relative_reason, offset_reason, extended_reason, reason_for}
 use Rattle.why.specs.Exactly.{IsAddress, some_named, AddressTold, NamesExactly, NamesOnly}
-use Rattle.why.proofs.Fresh.{makes, chosen_of, Accepts, accepts, laid_length}
+use Rattle.why.proofs.Fresh.{makes, chosen_of, accepts, laid_length}
 
 -- ---- the facts
 -- an address is on the page exactly if the page is known and not elsewhere

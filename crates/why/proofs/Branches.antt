@@ -1,10 +1,9 @@
 -- The distance that is told of a branch is the one that decided: a short branch stayed short exactly if it is in range, and out of range it was made long, or is 8.
 -- Assumes nothing.
-use mathlib.Core.Path.{◌≡◌, refl, sym, ap, subst, ◌∙◌}
-use mathlib.Core.Bool.{Bool, true, false, not, ◌&&◌}
-use Prim.Native.Nat.{ℕ, ◌+◌}
+use mathlib.Core.Path.{◌≡◌, sym, ap, subst, ◌∙◌}
+use mathlib.Core.Bool.{false, not}
+use Prim.Native.Nat.{ℕ}
 use native.Mathlib.Omega.{arith}
-use lib.Dec.{eqb}
 use borrow.Author.Tests.{eq-eqb}
 use Rattle.ground.specs.Choice.{pick}
 use Rattle.ground.specs.Refusals.{branch_too_far}
@@ -12,7 +11,7 @@ use Rattle.ground.specs.Words.{plus, minus}
 use Rattle.ground.proofs.Choices.{by_test}
 use Rattle.rows.specs.Forms.{extended, relative}
 use Rattle.rows.specs.Lookup.{has_form_of}
-use Rattle.rows.specs.Sizes.{of_code, number_size_of}
+use Rattle.rows.specs.Sizes.{number_size_of}
 use Rattle.postbytes.specs.Writing.{near_of}
 use Rattle.instruction.specs.declared.Record.{Record}
 use Rattle.instruction.specs.declared.Chosen.{Chosen}

@@ -1,21 +1,15 @@
 -- A fresh build comes to what is chosen for the form that its record asks for: accepted, with that form, marks and bytes; or, after 1 to 3, with the refusal of the choice.
 -- Assumes nothing.
-use mathlib.Core.Path.{◌≡◌, refl, sym, ap, subst, ◌∙◌}
+use mathlib.Core.Path.{◌≡◌, refl, sym, subst, ◌∙◌}
 use mathlib.Core.Bool.{true}
 use Prim.Native.Nat.{ℕ, ◌+◌, ◌<◌}
 use native.Mathlib.Omega.{arith}
 use lib.Dec.{eqb}
 use borrow.Author.Tests.{eqb-true, eqb-false}
-use Rattle.ground.specs.Choice.{pick}
 use Rattle.ground.specs.Refusals.{value_missing}
 use Rattle.ground.specs.Words.{plus}
-use Rattle.ground.proofs.Choices.{by_test, by_pick}
-use Rattle.values.specs.declared.pages.Page.{Page}
-use Rattle.rows.specs.declared.Coded.TheVariants.{Code}
-use Rattle.rows.specs.Lookup.{has_form_of, code_of}
-use Rattle.rows.specs.Sizes.{of_code}
-use Rattle.instruction.specs.declared.Operand.{Operand}
-use Rattle.instruction.specs.declared.Values.{Values}
+use Rattle.ground.proofs.Choices.{by_test}
+use Rattle.rows.specs.Lookup.{has_form_of}
 use Rattle.instruction.specs.declared.Record.{Record}
 use Rattle.instruction.specs.declared.Instruction.{Instruction}
 use Rattle.instruction.specs.declared.Chosen.{Chosen}

@@ -6,18 +6,18 @@ use mathlib.Core.Logic.{◌⊎◌, inl, inr}
 use Prim.Native.Nat.{ℕ, ◌+◌}
 use native.Mathlib.Omega.{arith}
 use lib.Dec.{eqb}
-use borrow.Author.Tests.{eqb-true, ltb-true}
+use borrow.Author.Tests.{eqb-true}
 use Rattle.ground.specs.Choice.{pick}
 use Rattle.ground.specs.Words.{plus, minus}
 use Rattle.ground.proofs.Choices.{by_test, by_pick}
 use Rattle.ground.proofs.Tests.{both_first}
 use Rattle.values.specs.declared.Value.{Value}
-use Rattle.values.specs.Widths.{valid_of, sign_extended_of, bits_of}
+use Rattle.values.specs.Widths.{valid_of}
 use Rattle.rows.specs.Forms.{indexed}
 use Rattle.rows.specs.Lookup.{has_form_of}
 use Rattle.postbytes.specs.declared.Encoded.{Encoded}
 use Rattle.postbytes.specs.declared.Index.TheVariants.{Offset, Counter}
-use Rattle.postbytes.specs.Registers.{PC, unknown_register, not_indexing}
+use Rattle.postbytes.specs.Registers.{PC, not_indexing}
 use Rattle.postbytes.specs.Writing.{five_bits, sized_of, constant_of, offset_of, counter_of, near_of, relative_of}
 use Rattle.instruction.specs.declared.Record.{Record}
 use Rattle.instruction.specs.declared.Chosen.{Chosen}

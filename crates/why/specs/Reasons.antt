@@ -1,5 +1,5 @@
 -- 02 a: why an accepted fresh instruction is as long as it is, over its record.
-use Rattle.std.specs.Prelude.{ℕ, ◌+◌, ◌/◌, Bool, false, ◌||◌, not, eqb}
+use Rattle.std.specs.Prelude.{ℕ, ◌+◌, ◌/◌, Bool, false, not, eqb}
 use Rattle.ground.specs.Choice.{pick}
 use Rattle.ground.specs.Words.{plus, minus}
 use Rattle.values.specs.declared.pages.Page.{Page}

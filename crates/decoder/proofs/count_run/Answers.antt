@@ -28,17 +28,20 @@ unfolding run_of counted_of pick
 returns-then-is_outside c = rw (← c.is_outside.ensures, c.if-is_outside.true)
 
 pub loop-at-init : goal.loop-at-init
-loop-at-init c = let a = c.args in
+loop-at-init c =
+    let a = c.args in
     let from = origin a.address a.page in
     (omega arith, rw (shift_zero from (omega arith)) (count_first (run_from 0 a.bytes.now from)))
 
 pub overflow_cast-at : goal.overflow_cast-at
-overflow_cast-at c = let a = c.args in
+overflow_cast-at c =
+    let a = c.args in
     omega (arith, inside a.bytes.now (origin a.address a.page) (sym c.is_outside.ensures ∙ c.if-is_outside.false))
 
 pub returns-then-read-ne0 : goal.returns-then-read-ne0
 unfolding run_of pick
-returns-then-read-ne0 c = let a = c.args in
+returns-then-read-ne0 c =
+    let a = c.args in
     let l = a.bytes.now in
     let from = origin a.address a.page in
     let at = c.loop-at.at in
@@ -49,7 +52,8 @@ returns-then-read-ne0 c = let a = c.args in
     (rw (next_refused l from at d e c.loop-at-test.true c.if-read-ne0.true) at c.loop-at.invariant.1) c.if-read-ne0.true))
 
 pub loop-at-smaller : goal.loop-at-smaller
-loop-at-smaller c = let a = c.args in
+loop-at-smaller c =
+    let a = c.args in
     let l = a.bytes.now in
     let from = origin a.address a.page in
     let at = c.loop-at.at in
@@ -59,7 +63,8 @@ loop-at-smaller c = let a = c.args in
     omega (arith, c.loop-at-test.true)
 
 pub loop-at-preserved : goal.loop-at-preserved
-loop-at-preserved c = let a = c.args in
+loop-at-preserved c =
+    let a = c.args in
     let l = a.bytes.now in
     let from = origin a.address a.page in
     let at = c.loop-at.at in
@@ -73,7 +78,8 @@ loop-at-preserved c = let a = c.args in
 
 pub returns : goal.returns
 unfolding run_of pick
-returns c = let a = c.args in
+returns c =
+    let a = c.args in
     let l = a.bytes.now in
     let from = origin a.address a.page in
     rw (← c.is_outside.ensures, c.if-is_outside.false)

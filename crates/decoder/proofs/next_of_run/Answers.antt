@@ -25,7 +25,8 @@ returns-then-bytes-at c = rw (
 ) c.refused-then-bytes-at.ensures
 
 pub overflow_cast-at : goal.overflow_cast-at
-overflow_cast-at c = let a = c.args in
+overflow_cast-at c =
+    let a = c.args in
     omega (arith, inside a.bytes.now (origin a.address a.page) (sym c.is_outside.ensures ∙ c.if-is_outside.false))
 
 pub returns : goal.returns

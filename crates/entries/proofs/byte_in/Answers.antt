@@ -1,6 +1,5 @@
 -- `entries::byte_in` meets its contract.
 -- Assumes nothing.
-use borrow.Author.Rules.{rules}
 use Rattle.entries.specs.Entries.{byte_in}
 use Rattle.entries.proofs.byte_in.Goals as goal
 

@@ -1,6 +1,5 @@
 -- `entries::entry_in` meets its contract.
 -- Assumes nothing.
-use borrow.Author.Rules.{rules}
 use Rattle.entries.specs.Entries.{is_flag, is_page_in, page_in, all_flagged, entry_of}
 use Rattle.entries.proofs.entry_in.Goals as goal
 

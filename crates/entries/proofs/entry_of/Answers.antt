@@ -1,7 +1,6 @@
 -- `entries::entry_of` meets its contract.
 -- Assumes nothing.
 use mathlib.Core.Path.{ap, ◌∙◌}
-use borrow.Author.Rules.{rules}
 use Rattle.entries.specs.Entries.{entry_of}
 use Rattle.entries.proofs.Cells.{entry_of_cells}
 use Rattle.entries.proofs.entry_of.Goals as goal

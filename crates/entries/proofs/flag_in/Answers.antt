@@ -1,7 +1,6 @@
 -- `entries::flag_in` meets its contract.
 -- Assumes nothing.
 use Rattle.entries.specs.Entries.{flag_in}
-use borrow.Author.Rules.{rules}
 use Rattle.entries.proofs.flag_in.Goals as goal
 
 pub returns : goal.returns

@@ -1,7 +1,6 @@
 -- `entries::flagged` meets its contract.
 -- Assumes nothing.
 use mathlib.Core.Path.{refl}
-use borrow.Author.Rules.{rules}
 use Rattle.entries.specs.Entries.{is_flag, flagged_in}
 use Rattle.entries.proofs.flagged.Goals as goal
 

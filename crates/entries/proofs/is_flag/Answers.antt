@@ -1,7 +1,6 @@
 -- `entries::is_flag` meets its contract.
 -- Assumes nothing.
 use Rattle.entries.specs.Entries.{is_flag}
-use borrow.Author.Rules.{rules}
 use Rattle.entries.proofs.is_flag.Goals as goal
 
 pub returns : goal.returns

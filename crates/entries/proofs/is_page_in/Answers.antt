@@ -1,6 +1,5 @@
 -- `entries::is_page_in` meets its contract.
 -- Assumes nothing.
-use borrow.Author.Rules.{rules}
 use Rattle.entries.specs.Entries.{is_page_in}
 use Rattle.entries.proofs.is_page_in.Goals as goal
 

@@ -3,7 +3,6 @@
 use native.Mathlib.Omega.{arith}
 use lib.ListN.{get_or}
 use borrow.Author.Tests.{lt-leb, le-leb}
-use borrow.Author.Rules.{rules}
 use Rattle.entries.specs.Entries.{is_flag, kept_flagged}
 use Rattle.entries.proofs.kept_flagged.Goals as goal
 

@@ -1,6 +1,5 @@
 -- `entries::kept_in` meets its contract.
 -- Assumes nothing.
-use borrow.Author.Rules.{rules}
 use Rattle.entries.specs.Entries.{byte_in, flag_in, kept_of}
 use Rattle.entries.proofs.kept_in.Goals as goal
 

@@ -1,7 +1,6 @@
 -- `entries::kept_of` meets its contract.
 -- Assumes nothing.
 use mathlib.Core.Path.{ap, ◌∙◌}
-use borrow.Author.Rules.{rules}
 use Rattle.entries.specs.Entries.{kept_of}
 use Rattle.entries.proofs.Cells.{kept_of_cells}
 use Rattle.entries.proofs.kept_of.Goals as goal

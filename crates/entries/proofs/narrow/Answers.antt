@@ -1,6 +1,5 @@
 -- `entries::narrow` meets its contract.
 -- Assumes nothing.
-use borrow.Author.Rules.{rules}
 use borrow.Author.Tests.{lt-ltb, le-ltb}
 use Rattle.ground.specs.Choice.{pick}
 use Rattle.entries.proofs.narrow.Goals as goal

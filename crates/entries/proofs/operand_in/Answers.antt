@@ -1,6 +1,5 @@
 -- `entries::operand_in` meets its contract.
 -- Assumes nothing.
-use borrow.Author.Rules.{rules}
 use Rattle.entries.specs.Entries.{operand_of}
 use Rattle.entries.proofs.operand_in.Goals as goal
 

@@ -1,7 +1,6 @@
 -- `entries::operand_of` meets its contract.
 -- Assumes nothing.
 use mathlib.Core.Path.{ap, ◌∙◌}
-use borrow.Author.Rules.{rules}
 use Rattle.entries.specs.Entries.{operand_of}
 use Rattle.entries.proofs.Cells.{operand_of_cells}
 use Rattle.entries.proofs.operand_of.Goals as goal

@@ -1,6 +1,5 @@
 -- `entries::operation_in` meets its contract.
 -- Assumes nothing.
-use borrow.Author.Rules.{rules}
 use Rattle.ground.specs.Choice.{pick}
 use Rattle.entries.specs.Entries.{byte_in}
 use Rattle.entries.proofs.operation_in.Goals as goal

@@ -1,6 +1,5 @@
 -- `entries::page_in` meets its contract.
 -- Assumes nothing.
-use borrow.Author.Rules.{rules}
 use Rattle.entries.specs.Entries.{page_in}
 use Rattle.entries.proofs.page_in.Goals as goal
 

@@ -1,6 +1,5 @@
 -- `entries::registers_in` meets its contract.
 -- Assumes nothing.
-use borrow.Author.Rules.{rules}
 use Rattle.entries.specs.Entries.{byte_in, registers_in}
 use Rattle.entries.proofs.registers_in.Goals as goal
 

@@ -4,7 +4,6 @@ use mathlib.Core.Path.{◌≡◌, refl, ◌∙◌}
 use mathlib.Core.Bool.{Bool, true, false}
 use mathlib.Core.List.{List}
 use Prim.Native.Nat.{ℕ}
-use borrow.Author.Rules.{rules}
 use Rattle.ground.specs.Choice.{pick}
 use Rattle.instruction.specs.declared.Operand.{Operand}
 use Rattle.entries.specs.Entries.{nowhere, byte_in, flag_in, registers_in, fields_in, told_in}

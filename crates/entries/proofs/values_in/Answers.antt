@@ -1,6 +1,5 @@
 -- `entries::values_in` meets its contract.
 -- Assumes nothing.
-use borrow.Author.Rules.{rules}
 use Rattle.entries.specs.Entries.{byte_in, flag_in, value_in, values_in}
 use Rattle.entries.proofs.values_in.Goals as goal
 

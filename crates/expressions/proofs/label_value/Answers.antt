@@ -12,6 +12,5 @@ returns-then-too_many_nodes c = rw (pick_true _ _ (sym c.too_many_nodes.ensures 
 pub returns : goal.returns
 unfolding label_answer
 returns c =
-    let test = c in
-    rw (pick_false _ _ (sym test.too_many_nodes.ensures ∙ test.if-too_many_nodes.false))
+    rw (pick_false _ _ (sym c.too_many_nodes.ensures ∙ c.if-too_many_nodes.false))
     (c.answer_of.ensures ∙ ap (answer_of _) c.label.ensures)

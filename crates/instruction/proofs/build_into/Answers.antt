@@ -24,7 +24,6 @@ slice_bounds-store_all-end c = sym (length-take-le _ _ (built_within c.args.i c.
 pub returns : goal.returns
 unfolding placed_of buffer_of pick
 returns c =
-    let built = c in
-    let e = built.build-built.ensures in
+    let e = c.build-built.ensures in
     let h = c.if-out-end.false in
     record { answer = rw (← e, le-ltb _ _ h); buffer = rw (← e, le-ltb _ _ h) (c.store_all.ensures ∙ front_all _ _ _ (built_within c.args.i c.args.v c.args.page c.args.address c.build-built.ensures) h) }

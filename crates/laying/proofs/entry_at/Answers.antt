@@ -7,7 +7,6 @@ use lib.ListN.{length, drop, length-drop}
 use lib.Seq.{take_all}
 use Rattle.entries.specs.Entries.{entry_of}
 use Rattle.laying.specs.Entries.{entry_at}
-use borrow.Author.Rules.{rules}
 use Rattle.laying.proofs.entry_at.Goals as goal
 
 pub returns : goal.returns

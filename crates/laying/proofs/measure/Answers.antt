@@ -1,6 +1,5 @@
 -- `laying::measure` meets its contract.
 -- Assumes nothing.
-use borrow.Author.Rules.{rules}
 use borrow.Author.Tests.{lt-ltb, le-ltb}
 use Rattle.ground.specs.Choice.{pick}
 use Rattle.laying.specs.Entries.{rows_in}

@@ -1,10 +1,8 @@
 -- `laying::measure_rows` meets its contract. The invariant: what was measured, before what is left, is the whole.
 -- Assumes nothing.
 use mathlib.Core.Path.{sym, ap, ◌∙◌}
-use Prim.Native.Nat.{◌+◌, ◌-◌, ◌*◌, ◌≤◌}
+use Prim.Native.Nat.{◌+◌, ◌-◌}
 use native.Mathlib.Omega.{arith}
-use lib.ListN.{length}
-use borrow.Author.Rules.{rules}
 use Rattle.laying.specs.Entries.{rows_in, entries_from, entries_of}
 use Rattle.laying.specs.Laying.{lay_from, answer_of}
 use Rattle.laying.proofs.Turns.{entries_next, entries_done, Laying, laying_first, laying_done, laying_refused, laying_more}

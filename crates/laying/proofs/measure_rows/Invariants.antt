@@ -1,13 +1,10 @@
 -- `laying::measure_rows` meets its contract. The invariant: what was measured, before what is left, is the whole.
 -- Assumes nothing.
-use mathlib.Core.Path.{sym, ap, ◌∙◌}
-use Prim.Native.Nat.{◌+◌, ◌-◌, ◌*◌, ◌≤◌}
-use native.Mathlib.Omega.{arith}
+use Prim.Native.Nat.{◌+◌, ◌*◌, ◌≤◌}
 use lib.ListN.{length}
-use borrow.Author.Rules.{rules}
-use Rattle.laying.specs.Entries.{rows_in, entries_from, entries_of}
-use Rattle.laying.specs.Laying.{lay_from, answer_of}
-use Rattle.laying.proofs.Turns.{entries_next, entries_done, Laying, laying_first, laying_done, laying_refused, laying_more}
+use Rattle.laying.specs.Entries.{entries_from, entries_of}
+use Rattle.laying.specs.Laying.{lay_from}
+use Rattle.laying.proofs.Turns.{Laying}
 use Rattle.laying.proofs.measure_rows.Given as goal
 
 abbrev pub invariant-loop-left : goal.invariant-loop-left

@@ -1,13 +1,12 @@
 -- `laying::store_rows` meets its contract. The invariant: what is left of the bytes, stored after those that are, is the whole.
 -- Assumes nothing.
-use mathlib.Core.Path.{◌≡◌, refl, sym, ap, ◌∙◌}
+use mathlib.Core.Path.{refl, sym, ap, ◌∙◌}
 use mathlib.Core.List.{List}
-use Prim.Native.Nat.{ℕ, ◌+◌, ◌*◌, ◌-◌, ◌≤◌}
+use Prim.Native.Nat.{ℕ, ◌+◌, ◌-◌, ◌≤◌}
 use native.Mathlib.Nat.{add-zero}
 use native.Mathlib.Omega.{arith}
 use lib.ListN.{length}
 use lib.Seq.{length-take-le}
-use borrow.Author.Rules.{rules}
 use Rattle.ground.specs.Stores.{put}
 use Rattle.ground.proofs.Stores.{put_length}
 use Rattle.instruction.specs.declared.Record.{Record}
@@ -38,19 +37,18 @@ slice_bounds-store_all-end c = sym (length-take-le _ _ (within (goal.at.slice_bo
 
 pub loop-left-preserved : goal.loop-left-preserved
 loop-left-preserved c =
-    let built = c in
-    let a = built.args in
-    let l = built.loop-left in
+    let a = c.args in
+    let l = c.loop-left in
     let list = a.list.now in
     let here = entry_at list l.row in
     let later = entries_from (l.left - 1) list (l.row + 21) in
-    let b = built.built_at-built.result in
+    let b = c.built_at-built.result in
     let e = c.store_all.ensures in
-    let most = built_most here (a.address + l.length) built.built_at-built.ensures in (
+    let most = built_most here (a.address + l.length) c.built_at-built.ensures in (
       ap (λ (d : List ℕ). put d (l.length + b.length) (bytes_from later (a.address + (l.length + b.length)))) e
-          ∙ built_stored l.out a.address l.length here later b built.built_at-built.ensures
+          ∙ built_stored l.out a.address l.length here later b c.built_at-built.ensures
           ∙ ap (λ (es : List Record). put l.out l.length (bytes_from es (a.address + l.length)))
-          (sym (entries_next l.left list l.row built.loop-left-test.true))
+          (sym (entries_next l.left list l.row c.loop-left-test.true))
           ∙ l.invariant.0,
       omega arith,
       ap length e ∙ put_length l.out l.length (bytes_in b) ∙ l.invariant.2,

@@ -1,21 +1,11 @@
 -- `laying::store_rows` meets its contract. The invariant: what is left of the bytes, stored after those that are, is the whole.
 -- Assumes nothing.
-use mathlib.Core.Path.{◌≡◌, refl, sym, ap, ◌∙◌}
-use mathlib.Core.List.{List}
-use Prim.Native.Nat.{ℕ, ◌+◌, ◌*◌, ◌-◌, ◌≤◌}
-use native.Mathlib.Nat.{add-zero}
-use native.Mathlib.Omega.{arith}
+use mathlib.Core.Path.{◌≡◌}
+use Prim.Native.Nat.{◌+◌, ◌*◌, ◌≤◌}
 use lib.ListN.{length}
-use lib.Seq.{length-take-le}
-use borrow.Author.Rules.{rules}
 use Rattle.ground.specs.Stores.{put}
-use Rattle.ground.proofs.Stores.{put_length}
-use Rattle.instruction.specs.declared.Record.{Record}
-use Rattle.instruction.specs.Building.{bytes_in}
-use Rattle.laying.specs.Entries.{rows_in, entry_at, entries_from, entries_of}
+use Rattle.laying.specs.Entries.{entries_from, entries_of}
 use Rattle.laying.specs.Exactly.{bytes_from}
-use Rattle.laying.proofs.Builds.{built_within, built_most}
-use Rattle.laying.proofs.Turns.{entries_next, entries_done, built_stored}
 use Rattle.laying.proofs.store_rows.Given as goal
 
 abbrev pub invariant-loop-left : goal.invariant-loop-left

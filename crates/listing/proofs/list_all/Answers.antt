@@ -2,7 +2,6 @@
 -- Assumes nothing.
 use Rattle.listing.specs.Listing.{listing_of}
 use Rattle.listing.proofs.Writing.{leads_done}
-use borrow.Author.Rules.{rules}
 use native.Mathlib.Omega.{arith}
 use Rattle.listing.proofs.list_all.Goals as goal
 

@@ -2,7 +2,6 @@
 -- Assumes nothing.
 use Rattle.ground.specs.Choice.{pick}
 use borrow.Author.Tests.{eq-eqb, ne_eqb}
-use borrow.Author.Rules.{rules}
 use Rattle.listing.proofs.list_last.Goals as goal
 
 pub returns-then-done-ne0 : goal.returns-then-done-ne0

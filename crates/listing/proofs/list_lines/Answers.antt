@@ -2,7 +2,6 @@
 -- Assumes nothing.
 use mathlib.Core.Path.{sym, ◌∙◌}
 use Rattle.listing.proofs.Walking.{ran_refused, ran_runs}
-use borrow.Author.Rules.{rules}
 use Rattle.listing.proofs.list_lines.Goals as goal
 
 pub returns-then-refusal-ne0 : goal.returns-then-refusal-ne0

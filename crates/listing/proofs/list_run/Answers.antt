@@ -1,9 +1,9 @@
 -- `listing::list_run` meets its contract. What holds at each turn is `Running`.
 -- Assumes nothing.
 use Prim.Native.Nat.{◌+◌, ◌-◌}
-use lib.ListN.{length, drop, length-drop}
+use lib.ListN.{drop, length-drop}
 use lib.Seq.{length-take-le}
-use Rattle.listing.proofs.Running.{size_there, Running, running_first, running_next, running_refused, running_end}
+use Rattle.listing.proofs.Running.{size_there, running_first, running_next, running_refused, running_end}
 use native.Mathlib.Omega.{arith}
 use Rattle.listing.proofs.list_run.Goals as goal
 

@@ -1,10 +1,8 @@
 -- `listing::list_run` meets its contract. What holds at each turn is `Running`.
 -- Assumes nothing.
-use Prim.Native.Nat.{◌+◌, ◌-◌}
-use lib.ListN.{length, drop, length-drop}
-use lib.Seq.{length-take-le}
-use Rattle.listing.proofs.Running.{size_there, Running, running_first, running_next, running_refused, running_end}
-use native.Mathlib.Omega.{arith}
+use Prim.Native.Nat.{◌-◌}
+use lib.ListN.{length}
+use Rattle.listing.proofs.Running.{Running}
 use Rattle.listing.proofs.list_run.Given as goal
 
 abbrev pub invariant-loop-place : goal.invariant-loop-place

@@ -1,13 +1,10 @@
 -- `listing::list_runs` meets its contract. What holds at each turn is `Walking`.
 -- Assumes nothing.
-use mathlib.Core.Path.{◌≡◌, refl, sym, ap, ◌∙◌}
+use mathlib.Core.Path.{◌≡◌}
 use Prim.Native.Nat.{◌≤◌}
 use lib.ListN.{length, drop}
-use Rattle.records.specs.Text.{Rec}
 use Rattle.reader.specs.Answers.{runs_in}
-use Rattle.listing.proofs.Texts.{no_run, next_run}
-use Rattle.listing.proofs.Walking.{taken, Walking, walking_first, walking_asks, walking_end, walking_on, walking_refused}
-use native.Mathlib.Omega.{arith}
+use Rattle.listing.proofs.Walking.{Walking}
 use Rattle.listing.proofs.list_runs.Given as goal
 
 abbrev pub invariant-loop-run : goal.invariant-loop-run

@@ -1,7 +1,6 @@
 -- `listing::list_text` meets its contract: the listing is measured, and then stored.
 -- Assumes nothing.
 use Rattle.listing.proofs.Answers.{no_room_lem, shown}
-use borrow.Author.Rules.{rules}
 use native.Mathlib.Omega.{arith}
 use borrow.Author.Tests.{lt-ltb, le-ltb}
 use Rattle.listing.proofs.list_text.Goals as goal

@@ -1,6 +1,5 @@
 -- `meanings::list_kind` meets its contract.
 -- Assumes nothing.
-use borrow.Author.Rules.{rules}
 use Rattle.ground.specs.Choice.{pick}
 use Rattle.meanings.specs.Means.{list_kind}
 use Rattle.meanings.proofs.list_kind.Goals as goal

@@ -1,6 +1,5 @@
 -- `meanings::meaning` meets its contract.
 -- Assumes nothing.
-use borrow.Author.Rules.{rules}
 use Rattle.meanings.specs.Means.{meaning_of}
 use Rattle.meanings.proofs.meaning.Goals as goal
 

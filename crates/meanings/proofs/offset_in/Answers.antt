@@ -1,6 +1,5 @@
 -- `meanings::offset_in` meets its contract.
 -- Assumes nothing.
-use borrow.Author.Rules.{rules}
 use Rattle.ground.specs.Choice.{pick}
 use Rattle.meanings.specs.Means.{offset_in}
 use Rattle.meanings.proofs.offset_in.Goals as goal

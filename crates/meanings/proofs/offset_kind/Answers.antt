@@ -1,6 +1,5 @@
 -- `meanings::offset_kind` meets its contract.
 -- Assumes nothing.
-use borrow.Author.Rules.{rules}
 use borrow.Author.Tests.{eq-eqb, ne_eqb}
 use Rattle.ground.specs.Choice.{pick}
 use Rattle.meanings.specs.Means.{offset_kind}

@@ -1,6 +1,5 @@
 -- `meanings::operation` meets its contract.
 -- Assumes nothing.
-use borrow.Author.Rules.{rules}
 use Rattle.ground.specs.Choice.{pick}
 use Rattle.meanings.specs.Means.{operation_of}
 use Rattle.meanings.proofs.operation.Goals as goal

@@ -3,7 +3,6 @@
 use mathlib.Core.Path.{sym, ◌∙◌}
 use native.Mathlib.Omega.{arith}
 use Rattle.reader.proofs.Lines.{end_of_text, line_feed, return_feed, no_return, lone_return}
-use borrow.Author.Rules.{rules}
 use Rattle.reader.proofs.after_end.Goals as goal
 
 pub returns-then-at-text : goal.returns-then-at-text

@@ -2,7 +2,6 @@
 -- Assumes nothing.
 use mathlib.Core.Path.{sym, subst}
 use native.Mathlib.Omega.{arith}
-use borrow.Author.Rules.{rules}
 use Rattle.reader.specs.Steps.{LineIs}
 use Rattle.reader.proofs.Lines.{known_there, known_end, known_sound, known_line}
 use Rattle.reader.proofs.known_line_at.Goals as goal

@@ -4,7 +4,6 @@ use mathlib.Core.Path.{sym, ◌∙◌, subst}
 use native.Mathlib.Omega.{arith}
 use Rattle.reader.specs.Steps.{LineIs}
 use Rattle.reader.proofs.Lines.{stands, no_colon, no_line, sound_there, line_there}
-use borrow.Author.Rules.{rules}
 use Rattle.reader.proofs.line_at.Goals as goal
 
 pub returns-then-byte-ne58 : goal.returns-then-byte-ne58
@@ -17,37 +16,31 @@ pairs_at-pairs-requires c =
 
 pub sound_line-requires : goal.sound_line-requires
 sound_line-requires c =
-    let found = c in
-    let head = found in
     sound_there _ _ _ _ _ _
-    (sym head.byte.ensures ∙ head.if-byte-ne58.false)
-    found.pairs_at-pairs.ensures.ended
-    found.pairs_at-pairs.ensures.summed
-    found.after_end-next.ensures
-    found.pair_at-count.ensures.0
+    (sym c.byte.ensures ∙ c.if-byte-ne58.false)
+    c.pairs_at-pairs.ensures.ended
+    c.pairs_at-pairs.ensures.summed
+    c.after_end-next.ensures
+    c.pair_at-count.ensures.0
     c.if-sound.true
 
 pub returns-then-sound : goal.returns-then-sound
 returns-then-sound c =
-    let found = c in
-    let head = found in
     subst (LineIs _ _) (sym c.sound_line.ensures)
     (line_there _ _ _ _ _ _
-    (sym head.byte.ensures ∙ head.if-byte-ne58.false)
-    found.pairs_at-pairs.ensures.ended
-    found.pairs_at-pairs.ensures.summed
-    found.after_end-next.ensures
-    found.pair_at-count.ensures.0
+    (sym c.byte.ensures ∙ c.if-byte-ne58.false)
+    c.pairs_at-pairs.ensures.ended
+    c.pairs_at-pairs.ensures.summed
+    c.after_end-next.ensures
+    c.pair_at-count.ensures.0
     c.if-sound.true)
 
 pub returns : goal.returns
 returns c =
-    let found = c in
-    let head = found in
     no_line _ _ _ _ _ _
-    (sym head.byte.ensures ∙ head.if-byte-ne58.false)
-    found.pairs_at-pairs.ensures.ended
-    found.pairs_at-pairs.ensures.summed
-    found.after_end-next.ensures
-    found.pair_at-count.ensures.0
+    (sym c.byte.ensures ∙ c.if-byte-ne58.false)
+    c.pairs_at-pairs.ensures.ended
+    c.pairs_at-pairs.ensures.summed
+    c.after_end-next.ensures
+    c.pair_at-count.ensures.0
     c.if-sound.false

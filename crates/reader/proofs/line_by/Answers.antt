@@ -1,7 +1,6 @@
 -- `reader::line_by` meets its contract: its tests are those of the definition.
 -- Assumes nothing.
 use mathlib.Core.Path.{sym, ◌∙◌}
-use borrow.Author.Rules.{rules}
 use Rattle.ground.proofs.Choices.{pick_true, pick_false}
 use Rattle.reader.specs.Steps.{line_by}
 use Rattle.reader.proofs.line_by.Goals as goal

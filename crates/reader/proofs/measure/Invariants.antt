@@ -1,12 +1,8 @@
 -- `reader::measure` meets its contract: what is left of the text, added to the tally, comes to what the whole does.
 -- Assumes nothing.
-use borrow.Author.Rules.{rules}
-use Rattle.reader.specs.Steps.{start}
-use Rattle.reader.specs.declared.Tally.{Tally}
-use Rattle.reader.proofs.Tallies.{Walked, end_here, broken_here, fits_here, walk_on, total_on, size_total}
-use mathlib.Core.Path.{◌≡◌, sym, ap, ◌∙◌}
+use Rattle.reader.proofs.Tallies.{Walked}
+use mathlib.Core.Path.{◌≡◌}
 use Prim.Native.Nat.{◌-◌}
-use native.Mathlib.Omega.{arith}
 use lib.ListN.{length, drop}
 use Rattle.reader.specs.Lines.{records_in}
 use Rattle.reader.specs.Answers.{size_of}

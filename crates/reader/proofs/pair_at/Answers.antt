@@ -3,7 +3,6 @@
 use native.Mathlib.Omega.{arith}
 use Rattle.reader.specs.Steps.{pair_at}
 use Rattle.reader.proofs.Digits.{pair_cut, pair_right, pair_wrong, pair_small}
-use borrow.Author.Rules.{rules}
 use Rattle.reader.proofs.pair_at.Goals as goal
 
 pub returns-then-text-at-lt2 : goal.returns-then-text-at-lt2

@@ -1,13 +1,11 @@
 -- `reader::pairs_at` meets its contract. What is left of the digits, counted and added to what was passed, is the whole.
 -- Assumes nothing.
-use mathlib.Core.Path.{◌≡◌, refl, ap, ◌∙◌}
-use Prim.Native.Nat.{ℕ, ◌+◌, ◌-◌, ◌*◌, ◌%◌, ◌<◌, ◌≤◌}
-use native.Mathlib.Omega.{arith}
+use mathlib.Core.Path.{◌≡◌}
+use Prim.Native.Nat.{◌+◌, ◌-◌, ◌*◌, ◌%◌, ◌<◌, ◌≤◌}
 use lib.ListN.{length, drop}
 use Rattle.records.specs.Line.{sum}
 use Rattle.reader.specs.Digits.{bytes_in}
 use Rattle.reader.specs.Steps.{pair_at}
-use Rattle.reader.proofs.Digits.{pair_there, none_there, pairs_on, sums_on}
 use Rattle.reader.proofs.pairs_at.Given as goal
 
 abbrev pub invariant-loop-next : goal.invariant-loop-next

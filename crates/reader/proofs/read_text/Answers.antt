@@ -1,7 +1,6 @@
 -- `reader::read_text` meets its contract: measured first, stored second.
 -- Assumes nothing.
 use Rattle.reader.proofs.Answers.{no_room_lem, fine_text, text_read, text_refused}
-use borrow.Author.Rules.{rules}
 use Rattle.reader.proofs.read_text.Goals as goal
 
 pub returns-then-short : goal.returns-then-short

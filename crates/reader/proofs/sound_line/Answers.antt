@@ -4,7 +4,6 @@ use Prim.Native.Nat.{◌+◌}
 use native.Mathlib.Omega.{arith}
 use Rattle.reader.specs.Steps.{sound_line}
 use Rattle.reader.proofs.Lines.{below_256}
-use borrow.Author.Rules.{rules}
 use Rattle.reader.proofs.sound_line.Goals as goal
 
 pub overflow_cast-address : goal.overflow_cast-address

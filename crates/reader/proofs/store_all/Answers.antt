@@ -1,11 +1,8 @@
 -- `reader::store_all` meets its contract: what is left of the text, stored after what is, is the whole.
 -- Assumes nothing.
-use borrow.Author.Rules.{rules}
-use Prim.Native.Nat.{◌-◌}
 use native.Mathlib.Omega.{arith}
-use lib.ListN.{length}
 use Rattle.reader.specs.Steps.{start}
-use Rattle.reader.proofs.Tallies.{fine_line, Storing, store_first, store_end, store_broken, store_room, store_on, fits_here}
+use Rattle.reader.proofs.Tallies.{fine_line, store_first, store_end, store_broken, store_room, store_on, fits_here}
 use Rattle.reader.proofs.store_all.Goals as goal
 
 pub loop-address-init : goal.loop-address-init
@@ -17,37 +14,32 @@ known_line_at-line-requires c = fine_line _ c.loop-address.invariant.right
 
 pub store_bytes-requires : goal.store_bytes-requires
 store_bytes-requires c =
-    let l = c in
-    let f = fits_here _ _ _ l.known_line_at-line.ensures _ _ _ _ c.in-Data.is in
-    (f.there, omega (arith, f.within, f.long, l.loop-address.invariant.walked.bytes))
+    let f = fits_here _ _ _ c.known_line_at-line.ensures _ _ _ _ c.in-Data.is in
+    (f.there, omega (arith, f.within, f.long, c.loop-address.invariant.walked.bytes))
 
 pub store_row-requires : goal.store_row-requires
 store_row-requires c =
-    let l = c in
     let e = c.in-Data.is in
-    let f = fits_here _ _ _ l.known_line_at-line.ensures _ _ _ _ e in (
-      omega (arith, l.loop-address.invariant.walked.runs, l.loop-address.invariant.walked.within),
+    let f = fits_here _ _ _ c.known_line_at-line.ensures _ _ _ _ e in (
+      omega (arith, c.loop-address.invariant.walked.runs, c.loop-address.invariant.walked.within),
       f.some,
-      store_room _ _ _ _ _ _ _ _ l.known_line_at-line.ensures l.loop-address.invariant _ _ _ _ e,
+      store_room _ _ _ _ _ _ _ _ c.known_line_at-line.ensures c.loop-address.invariant _ _ _ _ e,
     )
 
 pub with-tally-requires : goal.with-tally-requires
 with-tally-requires c =
-    let l = c in
-    let f = fits_here _ _ _ l.known_line_at-line.ensures _ _ _ _ c.in-Data.is in
-    let v = l.loop-address.invariant.walked in
+    let f = fits_here _ _ _ c.known_line_at-line.ensures _ _ _ _ c.in-Data.is in
+    let v = c.loop-address.invariant.walked in
     omega (arith, f.some, f.few, f.long, f.within, v.bytes, v.runs)
 
 pub loop-address-smaller : goal.loop-address-smaller
 loop-address-smaller c =
-    let l = c in
-    let f = fits_here _ _ _ l.known_line_at-line.ensures _ _ _ _ c.in-Data.is in
+    let f = fits_here _ _ _ c.known_line_at-line.ensures _ _ _ _ c.in-Data.is in
     omega (arith, f.long, f.within)
 
 pub loop-address-preserved : goal.loop-address-preserved
 loop-address-preserved c =
-    let l = c in
-    store_on _ _ _ _ _ _ _ _ l.known_line_at-line.ensures l.loop-address.invariant _ _ _ _ c.in-Data.is _ _ _
+    store_on _ _ _ _ _ _ _ _ c.known_line_at-line.ensures c.loop-address.invariant _ _ _ _ c.in-Data.is _ _ _
     c.store_bytes.ensures
     c.store_row.ensures
     c.with-tally.ensures

@@ -1,13 +1,10 @@
 -- `reader::store_bytes` meets its contract: what is left of the bytes, stored after those that are, is the whole.
 -- Assumes nothing.
-use mathlib.Core.Path.{◌≡◌, refl, sym, ap, ◌∙◌}
-use mathlib.Core.List.{List}
-use Prim.Native.Nat.{ℕ, ◌+◌, ◌-◌, ◌≤◌}
-use native.Mathlib.Omega.{arith}
-use lib.ListN.{length, take, drop, set, length-set}
+use mathlib.Core.Path.{◌≡◌}
+use Prim.Native.Nat.{◌+◌, ◌≤◌}
+use lib.ListN.{length, take, drop}
 use Rattle.ground.specs.Stores.{put}
 use Rattle.reader.specs.Digits.{bytes_in}
-use Rattle.reader.proofs.Digits.{pair_there, pair_left, take_pair, pairs_left, take_none}
 use Rattle.reader.proofs.store_bytes.Given as goal
 
 abbrev pub invariant-loop-left : goal.invariant-loop-left

@@ -4,24 +4,20 @@ use mathlib.Core.Path.{refl, sym, ◌∙◌}
 use native.Mathlib.Omega.{arith}
 use lib.Dec.{eqb}
 use Rattle.reader.proofs.Tallies.{begins_some, row_begins, row_follows}
-use borrow.Author.Rules.{rules}
 use Rattle.reader.proofs.store_row.Goals as goal
 
 pub overflow_sub-row : goal.overflow_sub-row
 overflow_sub-row c =
-    let b = c in
-    let a = b.args in
-    omega (arith, begins_some a.tally a.address (eqb a.tally.runs 0) refl (sym b.begins.ensures ∙ b.if-begins.false))
+    let a = c.args in
+    omega (arith, begins_some a.tally a.address (eqb a.tally.runs 0) refl (sym c.begins.ensures ∙ c.if-begins.false))
 
 pub returns-then-begins : goal.returns-then-begins
 returns-then-begins c =
-    let b = c in
     row_begins _ _ _ _ _ _
     c.store_cell.ensures
     c.store_cell-then-begins.ensures
-    (sym b.begins.ensures ∙ b.if-begins.true)
+    (sym c.begins.ensures ∙ c.if-begins.true)
 
 pub returns-else-begins : goal.returns-else-begins
 returns-else-begins c =
-    let b = c in
-    row_follows _ _ _ _ _ c.store_cell-else-begins.ensures (sym b.begins.ensures ∙ b.if-begins.false)
+    row_follows _ _ _ _ _ c.store_cell-else-begins.ensures (sym c.begins.ensures ∙ c.if-begins.false)

@@ -34,13 +34,11 @@ walk-end-requires c =
 
 pub returns-then-room-end : goal.returns-then-room-end
 returns-then-room-end c =
-    let tested = c in
-    let a = tested.args in
+    let a = c.args in
     is_over a.objects.now a.values.now a.room (clean (goal.at.returns-then-room-end c).Else-is_faulty) (near (goal.at.returns-then-room-end c).Else-is_too_far) (c.walk-end.ensures.over c.if-room-end.true)
 
 pub returns : goal.returns
 returns c =
-    let tested = c in
-    let a = tested.args in
+    let a = c.args in
     let e = (c.walk-end.ensures.done (omega arith)).0 in
     is_written a.objects.now a.values.now a.room (clean (goal.at.returns c).Else-is_faulty) (near (goal.at.returns c).Else-is_too_far) (omega (arith, e)) e

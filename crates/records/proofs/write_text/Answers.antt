@@ -9,14 +9,12 @@ use Rattle.records.proofs.write_text.Goals as goal
 
 pub walk-requires : goal.walk-requires
 walk-requires c =
-    let told = c in
-    let start = told in
-    let a = start.args in
+    let a = c.args in
     let os = a.objects.now in
     let vs = a.values.now in
     let room = length a.out.now in
-    let w = told.answer-written.result in
-    let is = told.answer-written.ensures in
+    let w = c.answer-written.result in
+    let is = c.answer-written.ensures in
     let ok = c.if-written-eq0.true in (
       counts_right os vs (not_faulty os vs room w is ok),
       not_beyond os vs room w is ok,
@@ -25,13 +23,12 @@ walk-requires c =
 
 pub returns-then-written-eq0 : goal.returns-then-written-eq0
 returns-then-written-eq0 c =
-    let told = c in
-    let a = told.args in
+    let a = c.args in
     let os = a.objects.now in
     let vs = a.values.now in
     let d = a.out.now in
-    let w = told.answer-written.result in
-    let is = told.answer-written.ensures in
+    let w = c.answer-written.result in
+    let is = c.answer-written.ensures in
     let ok = c.if-written-eq0.true in record {
       value = is;
       out_after = buffer_written os vs d (sym (ap (λ (x : Written). x.refusal) is) ∙ ok) (has_room os vs (length d) w is ok)
@@ -40,6 +37,5 @@ returns-then-written-eq0 c =
 
 pub returns-else-written-eq0 : goal.returns-else-written-eq0
 returns-else-written-eq0 c =
-    let told = c in
-    let a = told.args in
-    let is = told.answer-written.ensures in record { value = is; out_after = buffer_kept a.objects.now a.values.now a.out.now (λ z. c.if-written-eq0.false (ap (λ (x : Written). x.refusal) is ∙ z)) }
+    let a = c.args in
+    let is = c.answer-written.ensures in record { value = is; out_after = buffer_kept a.objects.now a.values.now a.out.now (λ z. c.if-written-eq0.false (ap (λ (x : Written). x.refusal) is ∙ z)) }

@@ -21,24 +21,22 @@ returns-in-Row c =
 
 pub returns-then-known-form : goal.returns-then-known-form
 returns-then-known-form c =
-    let d = c in
-    let a = d.args in
+    let a = c.args in
     sym (pick_true Missing Unknown (told true (ap (λ (k : Bool). k && ltb a.form 7) c.known.ensures) c.if-known-form.true))
     ∙ code_found a.operation a.form _ _ _ _ _ (omega arith)
-    d.merged-name.ensures
-    d.page_of-page.ensures
-    d.place_of_operation-at.ensures
-    d.row_at.ensures
-    (sym d.in-Nothing.is ∙ d.of_operation-found.ensures)
+    c.merged-name.ensures
+    c.page_of-page.ensures
+    c.place_of_operation-at.ensures
+    c.row_at.ensures
+    (sym c.in-Nothing.is ∙ c.of_operation-found.ensures)
 
 pub returns-else-known-form : goal.returns-else-known-form
 returns-else-known-form c =
-    let d = c in
-    let a = d.args in
+    let a = c.args in
     sym (pick_false Missing Unknown (told false (ap (λ (k : Bool). k && ltb a.form 7) c.known.ensures) c.if-known-form.false))
     ∙ code_found a.operation a.form _ _ _ _ _ (omega arith)
-    d.merged-name.ensures
-    d.page_of-page.ensures
-    d.place_of_operation-at.ensures
-    d.row_at.ensures
-    (sym d.in-Nothing.is ∙ d.of_operation-found.ensures)
+    c.merged-name.ensures
+    c.page_of-page.ensures
+    c.place_of_operation-at.ensures
+    c.row_at.ensures
+    (sym c.in-Nothing.is ∙ c.of_operation-found.ensures)

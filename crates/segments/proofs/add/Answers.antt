@@ -44,10 +44,9 @@ insert-requires c =
 pub returns : goal.returns
 unfolding added_to table_after pick
 returns c =
-    let at_call = c in
-    let a = at_call.args in
-    let accepted = sym at_call.refusal-refused.ensures ∙ at_call.if-refused-ne0.false in
-    let other = ne_eqb _ _ at_call.if-start-eq0.false in
+    let a = c.args in
+    let accepted = sym c.refusal-refused.ensures ∙ c.if-refused-ne0.false in
+    let other = ne_eqb _ _ c.if-start-eq0.false in
     let fine = eq-eqb _ _ accepted in record {
       answer = simp (other, fine);
       table = simp (other, fine)

@@ -10,13 +10,12 @@ use Rattle.segments.proofs.insert.Goals as goal
 
 pub loop-i-preserved : goal.loop-i-preserved
 loop-i-preserved c =
-    let in_loop = c in
-    let at_loop = in_loop.loop-i in
-    let starts₀ = in_loop.args.starts.now in (
+    let at_loop = c.loop-i in
+    let starts₀ = c.args.starts.now in (
       search rules,
       search rules,
       rw (c.lower.ensures, c.upper-carry.ensures)
-          (put_more at_loop.starts (length starts₀ - 1) at_loop.carry at_loop.i in_loop.loop-i-test.true (omega arith)
+          (put_more at_loop.starts (length starts₀ - 1) at_loop.carry at_loop.i c.loop-i-test.true (omega arith)
           ∙ at_loop.invariant.2),
     )
 

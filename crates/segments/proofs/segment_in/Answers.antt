@@ -10,11 +10,10 @@ loop-i-init c = (search rules, search rules, onward_first _ _)
 
 pub loop-i-preserved : goal.loop-i-preserved
 loop-i-preserved c =
-    let in_loop = c in
-    let at_loop = in_loop.loop-i in (
+    let at_loop = c.loop-i in (
       search rules,
       search rules,
-      rw c.narrowed-found.ensures (onward_more _ _ _ _ in_loop.loop-i-test.true ∙ at_loop.invariant.2),
+      rw c.narrowed-found.ensures (onward_more _ _ _ _ c.loop-i-test.true ∙ at_loop.invariant.2),
     )
 
 pub returns : goal.returns

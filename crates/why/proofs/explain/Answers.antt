@@ -1,6 +1,5 @@
 -- `why::explain` meets its contract.
 -- Assumes nothing.
-use borrow.Author.Rules.{rules}
 use Rattle.why.specs.Explaining.{explained_of}
 use Rattle.why.proofs.explain.Goals as goal
 

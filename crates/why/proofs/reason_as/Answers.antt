@@ -1,6 +1,5 @@
 -- `why::reason_as` meets its contract.
 -- Assumes nothing.
-use borrow.Author.Rules.{rules}
 use borrow.Author.Tests.{eq-eqb, ne_eqb}
 use Rattle.ground.specs.Choice.{pick}
 use Rattle.why.specs.Explaining.{reason_as}

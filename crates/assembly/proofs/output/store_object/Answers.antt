@@ -16,7 +16,4 @@ returns-then-kind-eq-NONE c = record { row = rw (eq-eqb _ _ c.if-kind-eq-NONE.tr
 pub returns : goal.returns
 unfolding object_row pick
 returns c =
-    let third = c in
-    let second = third in
-    let first = second in
-    record { row = rw (ne_eqb _ _ first.if-kind-eq-NONE.false) (row_stored first.store_cell.ensures second.store_cell-2.ensures third.store_cell-3.ensures); bound = omega arith }
+    record { row = rw (ne_eqb _ _ c.if-kind-eq-NONE.false) (row_stored c.store_cell.ensures c.store_cell-2.ensures c.store_cell-3.ensures); bound = omega arith }

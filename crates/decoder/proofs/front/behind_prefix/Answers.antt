@@ -8,5 +8,6 @@ pub returns-then-bytes-at : goal.returns-then-bytes-at
 returns-then-bytes-at c = rw (drop_of_length-le c.args.bytes.now c.if-bytes-at.true)
 
 pub returns : goal.returns
-returns c = let a = c.args in
+returns c =
+    let a = c.args in
     rw (drop_next a.bytes.now a.at c.if-bytes-at.false)

@@ -10,7 +10,8 @@ use Rattle.decoder.specs.declared.operands.Reading.{Reading}
 use Rattle.decoder.proofs.front.coded.Goals as goal
 
 pub join-requires : goal.join-requires
-join-requires c = let a = c.args in
+join-requires c =
+    let a = c.args in
     let form = c.in-Is.form in
     let n : c.number_size-number.result ≤ 2 = omega (arith, c.number_size-number.ensures, number_small form a.page a.code) in (
       search rules,

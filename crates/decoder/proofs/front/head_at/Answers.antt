@@ -12,11 +12,13 @@ returns-then-bytes-at c = rw (drop_of_length-le c.args.bytes.now c.if-bytes-at.t
 
 pub returns-then-is_prefix : goal.returns-then-is_prefix
 unfolding head_of pick
-returns-then-is_prefix c = let a = c.args in
+returns-then-is_prefix c =
+    let a = c.args in
     rw (drop_next a.bytes.now a.at c.if-bytes-at.false, ← c.is_prefix.ensures, c.if-is_prefix.true)
     c.behind_prefix.ensures
 
 pub returns : goal.returns
 unfolding head_of pick
-returns c = let a = c.args in
+returns c =
+    let a = c.args in
     rw (drop_next a.bytes.now a.at c.if-bytes-at.false, ← c.is_prefix.ensures, c.if-is_prefix.false)

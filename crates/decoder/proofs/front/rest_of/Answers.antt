@@ -20,7 +20,8 @@ made :
 made l m a b d e p q r = rw (p, q, r, e)
 
 pub returns : goal.returns
-returns c = let l = c.args.bytes.now in
+returns c =
+    let l = c.args.bytes.now in
     let at = c.args.at in
     made (drop at l) (take (length l - at) (drop at l)) _ _ _ (take_all (length l - at) (drop at l) (omega (arith, length-drop at l)))
     c.byte.ensures c.byte-2.ensures c.byte-3.ensures

@@ -22,7 +22,8 @@ returns-in-4 c = simp c.in-4.is
 
 pub returns-in-5 : goal.returns-in-5
 unfolding numbered_of pick
-returns-in-5 c = let a = c.args in
+returns-in-5 c =
+    let a = c.args in
     let e : c.target.result ≡ target_of (shifted a.after a.size) c.distance.result = c.target.ensures in
     simp c.in-5.is
     (ap Branch (e ∙ ap (target_of (shifted a.after a.size)) c.distance.ensures))

@@ -12,6 +12,5 @@ returns-then-refusal-ne0 c = rw (← c.first_refusal-refusal.ensures, ne_eqb _ _
 pub returns : goal.returns
 unfolding joined pick
 returns c =
-    let tested = c in
-    rw (← tested.first_refusal-refusal.ensures, eq-eqb _ _ tested.if-refusal-ne0.false, ← c.computed.ensures)
+    rw (← c.first_refusal-refusal.ensures, eq-eqb _ _ c.if-refusal-ne0.false, ← c.computed.ensures)
     c.accepted.ensures

@@ -12,5 +12,4 @@ returns-then-table-at c = rw (pick_true _ _ (lt-ltb _ _ c.if-table-at.true))
 pub returns : goal.returns
 unfolding row_at
 returns c =
-    let test = c in
-    rw (pick_false _ _ (le-ltb _ _ test.if-table-at.false), c.cell.ensures, c.cell-2.ensures, c.cell-3.ensures)
+    rw (pick_false _ _ (le-ltb _ _ c.if-table-at.false), c.cell.ensures, c.cell-2.ensures, c.cell-3.ensures)

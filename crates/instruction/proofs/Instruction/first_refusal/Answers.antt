@@ -8,9 +8,8 @@ use Rattle.instruction.proofs.Instruction.first_refusal.Goals as goal
 
 pub returns-then-fine : goal.returns-then-fine
 returns-then-fine c =
-    let start = c in
-    let a = start.args in
-    nothing_wrong a.self a.v a.c a.coded start.requires c.is_fit.ensures c.is_code.ensures c.if-fine.true
+    let a = c.args in
+    nothing_wrong a.self a.v a.c a.coded c.requires c.is_fit.ensures c.is_code.ensures c.if-fine.true
 
 pub returns-then-unsound : goal.returns-then-unsound
 unfolding first_refusal early_of pick
@@ -27,13 +26,11 @@ returns-then-is_lacking c =
 pub returns-then-is_missing : goal.returns-then-is_missing
 unfolding first_refusal early_of misses pick
 returns-then-is_missing c =
-    let lacked = c in
-    let s = lacked.is_sound-unsound in
-    rw (← s.ensures, lacked.if-unsound.false, ← lacked.is_lacking.ensures, lacked.if-is_lacking.false, ← c.is_missing.ensures, c.if-is_missing.true)
+    let s = c.is_sound-unsound in
+    rw (← s.ensures, c.if-unsound.false, ← c.is_lacking.ensures, c.if-is_lacking.false, ← c.is_missing.ensures, c.if-is_missing.true)
 
 pub returns : goal.returns
 unfolding first_refusal early_of misses pick
 returns c =
-    let lacked = c in
-    let s = lacked.is_sound-unsound in
-    rw (← s.ensures, lacked.if-unsound.false, ← lacked.is_lacking.ensures, lacked.if-is_lacking.false, ← c.is_missing.ensures, c.if-is_missing.false)
+    let s = c.is_sound-unsound in
+    rw (← s.ensures, c.if-unsound.false, ← c.is_lacking.ensures, c.if-is_lacking.false, ← c.is_missing.ensures, c.if-is_missing.false)

@@ -9,18 +9,16 @@ use Rattle.instruction.proofs.Instruction.make.Goals as goal
 pub returns-then-is_lacking : goal.returns-then-is_lacking
 unfolding make_of made_as pick
 returns-then-is_lacking c =
-    let tested = c in
-    let r = tested.args.r in
-    let e : make_of r ≡ unmade 2 = rw (← tested.is_recognised.ensures, ← tested.is_lawful.ensures, c.if-known.true, ← c.form_for-form.ensures, ← c.is_lacking.ensures, c.if-is_lacking.true) in
+    let r = c.args.r in
+    let e : make_of r ≡ unmade 2 = rw (← c.is_recognised.ensures, ← c.is_lawful.ensures, c.if-known.true, ← c.form_for-form.ensures, ← c.is_lacking.ensures, c.if-is_lacking.true) in
     c.unmade.ensures ∙ sym e
 
 pub returns-then-known : goal.returns-then-known
 unfolding make_of made_as pick
 returns-then-known c =
-    let tested = c in
-    let r = tested.args.r in
+    let r = c.args.r in
     let form = c.form_for-form in
-    let e : make_of r ≡ made (instruction_of r.operand form.result) = rw (← tested.is_recognised.ensures, ← tested.is_lawful.ensures, c.if-known.true, ← form.ensures, ← c.is_lacking.ensures, c.if-is_lacking.false) in
+    let e : make_of r ≡ made (instruction_of r.operand form.result) = rw (← c.is_recognised.ensures, ← c.is_lawful.ensures, c.if-known.true, ← form.ensures, ← c.is_lacking.ensures, c.if-is_lacking.false) in
     ap made c.instruction_of-instruction.ensures ∙ sym e
 
 pub returns : goal.returns

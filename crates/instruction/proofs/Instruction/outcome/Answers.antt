@@ -23,10 +23,9 @@ returns-then-n-ne0 c =
 
 pub returns : goal.returns
 returns c =
-    let told = c in
-    let a = told.args in
-    let chosen = told.choose-c.ensures in
-    let first = told.first_refusal-n.ensures ∙ ap (first_refusal a.self a.v) chosen in
-    accepted_outcome a.self _ a.address told.code_of-coded.ensures c.lay-laid.ensures c.dirties.ensures
+    let a = c.args in
+    let chosen = c.choose-c.ensures in
+    let first = c.first_refusal-n.ensures ∙ ap (first_refusal a.self a.v) chosen in
+    accepted_outcome a.self _ a.address c.code_of-coded.ensures c.lay-laid.ensures c.dirties.ensures
     ∙ ap (λ (k : Chosen). outcome_of (accepted_of a.self k a.address)) chosen
     ∙ ap outcome_of (sym (none_first a.self a.v a.page a.address (sym first ∙ c.if-n-ne0.false)))

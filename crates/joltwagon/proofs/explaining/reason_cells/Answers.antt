@@ -1,6 +1,5 @@
 -- `joltwagon::explaining::reason_cells` meets its contract.
 -- Assumes nothing.
-use borrow.Author.Rules.{rules}
 use Rattle.joltwagon.proofs.Reasons.{reason_by_cell}
 use Rattle.joltwagon.proofs.explaining.reason_cells.Goals as goal
 

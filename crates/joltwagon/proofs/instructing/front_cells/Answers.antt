@@ -1,6 +1,5 @@
 -- `joltwagon::instructing::front_cells` meets its contract.
 -- Assumes nothing.
-use borrow.Author.Rules.{rules}
 use Rattle.joltwagon.proofs.Spoken.{front_by_cell}
 use Rattle.joltwagon.proofs.instructing.front_cells.Goals as goal
 

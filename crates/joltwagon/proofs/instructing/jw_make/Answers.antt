@@ -1,29 +1,21 @@
 -- `joltwagon::instructing::jw_make` meets its contract.
 -- Assumes nothing.
 use mathlib.Core.Path.{ap, ◌∙◌}
-use borrow.Author.Rules.{rules}
 use borrow.Author.Tests.{lt-leb, le-leb}
 use Rattle.answers.proofs.Laws.{said_as}
 use Rattle.instruction.specs.Building.{make_of}
 use Rattle.joltwagon.specs.Instructing.{make_said}
 use Rattle.joltwagon.proofs.Spoken.{no_row, row, made_said_lem}
-use Rattle.answers.proofs.Laws.{Answers}
-use Rattle.ground.specs.Refusals.{unknown}
 use Rattle.joltwagon.proofs.instructing.jw_make.Goals as goal
 
 pub returns-then-row-lt-RECORD : goal.returns-then-row-lt-RECORD
 unfolding make_said
-returns-then-row-lt-RECORD c =
-    let p : Answers (make_said c.args.row.now) unknown c.args.answer.now c.args.answer.now =
-    no_row _ _ (lt-leb _ _ c.if-row-lt-RECORD.true) in
-    record { value = p.0; answer_after = p.1 }
+returns-then-row-lt-RECORD c = no_row _ _ (lt-leb _ _ c.if-row-lt-RECORD.true)
 
 pub returns : goal.returns
 unfolding make_said
 returns c =
-    let p : Answers (make_said c.args.row.now) c.hand.result c.args.answer.now c.hand.new.answer =
     row _ _ (le-leb _ _ c.if-row-lt-RECORD.false)
     (said_as _
     (made_said_lem (c.make-made.ensures ∙ ap make_of c.entry_of.ensures) c.kept_cells-kept.ensures)
-    (c.hand.ensures.value, c.hand.ensures.answer_after)) in
-    record { value = p.0; answer_after = p.1 }
+    c.hand.ensures)

@@ -1,6 +1,5 @@
 -- `joltwagon::kept::is_present` meets its contract.
 -- Assumes nothing.
-use borrow.Author.Rules.{rules}
 use borrow.Author.Tests.{lt-leb, le-leb}
 use Rattle.joltwagon.specs.Kept.{is_present}
 use Rattle.joltwagon.proofs.kept.is_present.Goals as goal

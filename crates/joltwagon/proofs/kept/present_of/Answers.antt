@@ -1,6 +1,5 @@
 -- `joltwagon::kept::present_of` meets its contract.
 -- Assumes nothing.
-use borrow.Author.Rules.{rules}
 use Rattle.entries.specs.Entries.{flag_in, value_in}
 use Rattle.joltwagon.specs.Kept.{present_of}
 use Rattle.joltwagon.proofs.kept.present_of.Goals as goal

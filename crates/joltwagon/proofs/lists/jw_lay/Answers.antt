@@ -1,7 +1,6 @@
 -- `joltwagon::lists::jw_lay` meets its contract.
 -- Assumes nothing.
 use mathlib.Core.Path.{ap, ◌∙◌}
-use borrow.Author.Rules.{rules}
 use Rattle.answers.specs.Steps.{late_of}
 use Rattle.answers.proofs.Laws.{said_as}
 use Rattle.laying.specs.declared.Laid.{Laid}
@@ -20,4 +19,4 @@ returns c =
     let a = c.args in
     let l = c.lay-laid.ensures in
     laid a.list.now a.address a.out.now a.answer.now c.if-answer-lt4.false l.buffer
-    (said_as a.answer.now (laid_said_lem l.answer c.size-cells.ensures) (c.hand.ensures.value, c.hand.ensures.answer_after))
+    (said_as a.answer.now (laid_said_lem l.answer c.size-cells.ensures) c.hand.ensures)

@@ -1,9 +1,7 @@
 -- `joltwagon::placing::jw_add_segment` meets its contract.
 -- Assumes nothing.
-use borrow.Author.Rules.{rules}
 use native.Mathlib.Omega.{arith}
 use Rattle.joltwagon.proofs.Starts.{none_added, count_fits, added, kept_out}
-use Rattle.joltwagon.specs.Placing.{segments_after}
 use Rattle.joltwagon.proofs.placing.jw_add_segment.Goals as goal
 
 pub returns-then-segments-eq0 : goal.returns-then-segments-eq0

@@ -1,6 +1,5 @@
 -- `joltwagon::settling::jw_hex` meets its contract.
 -- Assumes nothing.
-use borrow.Author.Rules.{rules}
 use Rattle.answers.proofs.Laws.{said_as}
 use Rattle.passes.specs.Walks.{source}
 use Rattle.joltwagon.proofs.Spoken.{hex_said_lem}
@@ -20,5 +19,5 @@ returns c =
     let h = c.hex-written.ensures in
     written (source a.list.now a.items.now a.nodes.now) a.labels.now a.objects.now a.values.now a.out.now a.answer.now
     c.if-answer-lt4.false h.answer h.labels h.objects h.values h.text
-    (said_as a.answer.now (hex_said_lem h.answer c.size-cells.ensures) (c.hand-refusal.ensures.value, c.hand-refusal.ensures.answer_after))
+    (said_as a.answer.now (hex_said_lem h.answer c.size-cells.ensures) c.hand-refusal.ensures)
     c.with_passes-2.ensures

@@ -1,7 +1,6 @@
 -- `joltwagon::settling::jw_settle` meets its contract.
 -- Assumes nothing.
 use mathlib.Core.Path.{ap, ◌∙◌}
-use borrow.Author.Rules.{rules}
 use Rattle.passes.specs.declared.Settled.{Settled}
 use Rattle.joltwagon.specs.Settling.{with_passes}
 use Rattle.joltwagon.proofs.settling.jw_settle.Goals as goal

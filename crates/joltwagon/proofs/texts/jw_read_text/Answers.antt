@@ -1,7 +1,6 @@
 -- `joltwagon::texts::jw_read_text` meets its contract.
 -- Assumes nothing.
 use mathlib.Core.Path.{ap, ◌∙◌}
-use borrow.Author.Rules.{rules}
 use Rattle.answers.proofs.Laws.{said_as}
 use Rattle.answers.specs.Steps.{late_of}
 use Rattle.joltwagon.proofs.Spoken.{read_said_lem}
@@ -19,4 +18,4 @@ returns c =
     let a = c.args in
     let r = c.read_text-read.ensures in
     read a.text.now a.bytes.now a.runs.now a.answer.now c.if-answer-lt8.false r
-    (said_as a.answer.now (read_said_lem r.answer c.size-sized.ensures c.size-counted.ensures) (c.hand_both.ensures.value, c.hand_both.ensures.answer_after))
+    (said_as a.answer.now (read_said_lem r.answer c.size-sized.ensures c.size-counted.ensures) c.hand_both.ensures)

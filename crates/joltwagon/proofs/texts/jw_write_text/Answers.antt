@@ -1,7 +1,6 @@
 -- `joltwagon::texts::jw_write_text` meets its contract.
 -- Assumes nothing.
 use mathlib.Core.Path.{ap, ◌∙◌}
-use borrow.Author.Rules.{rules}
 use Rattle.answers.proofs.Laws.{said_as}
 use Rattle.records.specs.declared.Written.{Written}
 use Rattle.answers.specs.Steps.{late_of}
@@ -20,4 +19,4 @@ returns c =
     let a = c.args in
     let w = c.write_text-written.ensures in
     written a.objects.now a.values.now a.out.now a.answer.now c.if-answer-lt4.false w.out_after
-    (said_as a.answer.now (written_said_lem w.value c.size-cells.ensures) (c.hand.ensures.value, c.hand.ensures.answer_after))
+    (said_as a.answer.now (written_said_lem w.value c.size-cells.ensures) c.hand.ensures)

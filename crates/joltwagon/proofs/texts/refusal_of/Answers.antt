@@ -1,6 +1,5 @@
 -- `joltwagon::texts::refusal_of` meets its contract.
 -- Assumes nothing.
-use borrow.Author.Rules.{rules}
 use mathlib.Core.Path.{ap}
 use Rattle.reader.specs.declared.Read.{Read}
 use Rattle.joltwagon.proofs.texts.refusal_of.Goals as goal

@@ -1,9 +1,9 @@
 -- `listing::lines::put_bytes` meets its contract: what is left of the bytes, written from here on, makes the whole.
 -- Assumes nothing.
-use mathlib.Core.Path.{◌≡◌, refl, subst, ap, ◌∙◌}
+use mathlib.Core.Path.{refl, subst, ap, ◌∙◌}
 use mathlib.Core.List.{List}
-use Prim.Native.Nat.{ℕ, ◌+◌, ◌-◌, ◌*◌, ◌≤◌}
-use lib.ListN.{length, drop, drop_of_length-le}
+use Prim.Native.Nat.{ℕ, ◌+◌}
+use lib.ListN.{drop, drop_of_length-le}
 use Rattle.ground.proofs.Stores.{drop_next, kept}
 use Rattle.listing.specs.Lines.{spaced}
 use Rattle.listing.specs.Steps.{Leads}

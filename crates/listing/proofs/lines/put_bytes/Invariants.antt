@@ -1,14 +1,10 @@
 -- `listing::lines::put_bytes` meets its contract: what is left of the bytes, written from here on, makes the whole.
 -- Assumes nothing.
-use mathlib.Core.Path.{◌≡◌, refl, subst, ap, ◌∙◌}
-use mathlib.Core.List.{List}
-use Prim.Native.Nat.{ℕ, ◌+◌, ◌-◌, ◌*◌, ◌≤◌}
-use lib.ListN.{length, drop, drop_of_length-le}
-use Rattle.ground.proofs.Stores.{drop_next, kept}
+use mathlib.Core.Path.{◌≡◌}
+use Prim.Native.Nat.{◌+◌, ◌-◌, ◌*◌, ◌≤◌}
+use lib.ListN.{length, drop}
 use Rattle.listing.specs.Lines.{spaced}
 use Rattle.listing.specs.Steps.{Leads}
-use Rattle.listing.proofs.Writing.{leads_all, leads_on, leads_end}
-use native.Mathlib.Omega.{arith}
 use Rattle.listing.proofs.lines.put_bytes.Given as goal
 
 abbrev pub invariant-loop-i : goal.invariant-loop-i

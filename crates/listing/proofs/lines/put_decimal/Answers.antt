@@ -3,7 +3,6 @@
 use Rattle.ground.proofs.Stores.{wrote_one, and_then}
 use Rattle.listing.specs.Lines.{decimal}
 use Rattle.listing.proofs.Writing.{place_short}
-use borrow.Author.Rules.{rules}
 use native.Mathlib.Omega.{arith}
 use Rattle.listing.proofs.lines.put_decimal.Goals as goal
 

@@ -3,7 +3,6 @@
 use Rattle.ground.proofs.Stores.{wrote_one, and_then}
 use Rattle.listing.specs.Lines.{line_of}
 use Rattle.listing.proofs.Writing.{spaced_length}
-use borrow.Author.Rules.{rules}
 use native.Mathlib.Omega.{arith}
 use Rattle.listing.proofs.lines.put_instruction.Goals as goal
 

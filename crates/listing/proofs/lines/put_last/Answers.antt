@@ -3,7 +3,6 @@
 use Rattle.ground.proofs.Stores.{wrote_one, and_then}
 use Rattle.listing.specs.Lines.{last_line}
 use Rattle.listing.proofs.Writing.{decimal_short}
-use borrow.Author.Rules.{rules}
 use native.Mathlib.Omega.{arith}
 use Rattle.listing.proofs.lines.put_last.Goals as goal
 

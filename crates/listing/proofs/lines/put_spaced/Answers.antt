@@ -1,7 +1,6 @@
 -- `listing::lines::put_spaced` meets its contract: a blank, and then the byte.
 -- Assumes nothing.
 use Rattle.ground.proofs.Stores.{wrote_one, and_then}
-use borrow.Author.Rules.{rules}
 use Rattle.listing.proofs.lines.put_spaced.Goals as goal
 
 pub returns : goal.returns

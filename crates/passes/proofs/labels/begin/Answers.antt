@@ -13,12 +13,10 @@ loop-k-init c = search rules
 
 pub loop-k-preserved : goal.loop-k-preserved
 loop-k-preserved c =
-    let stored = c in
-    let turn = stored in
-    let inv = turn.loop-k.invariant in (
+    let inv = c.loop-k.invariant in (
       search rules,
       search rules,
-      begin_more _ _ _ _ _ _ _ _ turn.loop-k-test.true turn.requires stored.cell.ensures (ap (ltb _) turn.rows_of-rows.ensures) stored.begin_row.ensures ∙ inv.2,
+      begin_more _ _ _ _ _ _ _ _ c.loop-k-test.true c.requires c.cell.ensures (ap (ltb _) c.rows_of-rows.ensures) c.begin_row.ensures ∙ inv.2,
     )
 
 pub returns : goal.returns

@@ -5,8 +5,5 @@ use Rattle.passes.proofs.labels.begin_row.Goals as goal
 
 pub returns : goal.returns
 returns c =
-    let third = c in
-    let second = third in
-    let first = second in
-    row_stored _ _ _ _ _ _ _ _ _ first.lent_row-lent.ensures first.begun_state.ensures first.store_cell.ensures
-    second.store_cell-2.ensures third.store_cell-3.ensures
+    row_stored _ _ _ _ _ _ _ _ _ c.lent_row-lent.ensures c.begun_state.ensures c.store_cell.ensures
+    c.store_cell-2.ensures c.store_cell-3.ensures

@@ -10,12 +10,10 @@ loop-i-init c = (search rules, search rules, rw c.rows_of-i.ensures (c.requires.
 
 pub loop-i-preserved : goal.loop-i-preserved
 loop-i-preserved c =
-    let stored = c in
-    let turn = stored in
-    let inv = turn.loop-i.invariant in (
+    let inv = c.loop-i.invariant in (
       search rules,
       search rules,
-      rw (stored.store_cell.ensures, stored.label_at.ensures, inv.2) (found_more _ _ turn.loop-i-test.true inv.0),
+      rw (c.store_cell.ensures, c.label_at.ensures, inv.2) (found_more _ _ c.loop-i-test.true inv.0),
     )
 
 pub returns : goal.returns

@@ -17,8 +17,7 @@ returns-then-misplaced c = rw (c.if-strange.false, c.if-misplaced.true) c.refuse
 
 pub on-requires : goal.on-requires
 on-requires c =
-    let start = c in
-    (neither_left (not_indexing start.args.register) (not_accumulator start.args.which) c.if-misplaced.false, omega arith)
+    (neither_left (not_indexing c.args.register) (not_accumulator c.args.which) c.if-misplaced.false, omega arith)
 
 pub returns : goal.returns
 unfolding accumulator_of pick

@@ -16,24 +16,21 @@ loop-i-init c = (omega arith, refl)
 pub returns-then-registers-i-ge10 : goal.returns-then-registers-i-ge10
 unfolding any_unknown
 returns-then-registers-i-ge10 c =
-    let start = c in
-    let h : start.args.count ≤ length start.args.registers = omega arith in
+    let h : c.args.count ≤ length c.args.registers = omega arith in
     sym (c.loop-i.invariant.1
-    ∙ hit unknown_register start.args.registers start.args.count c.loop-i.i h (omega arith) (le-leb 10 _ c.if-registers-i-ge10.true))
+    ∙ hit unknown_register c.args.registers c.args.count c.loop-i.i h (omega arith) (le-leb 10 _ c.if-registers-i-ge10.true))
 
 pub loop-i-preserved : goal.loop-i-preserved
 loop-i-preserved c =
-    let start = c in
-    let h : start.args.count ≤ length start.args.registers = omega arith in (
+    let h : c.args.count ≤ length c.args.registers = omega arith in (
       omega arith,
       c.loop-i.invariant.1
-          ∙ miss unknown_register start.args.registers start.args.count c.loop-i.i h (omega arith) (lt-leb 10 _ c.if-registers-i-ge10.false),
+          ∙ miss unknown_register c.args.registers c.args.count c.loop-i.i h (omega arith) (lt-leb 10 _ c.if-registers-i-ge10.false),
     )
 
 pub returns : goal.returns
 unfolding any_unknown
 returns c =
-    let start = c in
-    let h : start.args.count ≤ length start.args.registers = omega arith in
+    let h : c.args.count ≤ length c.args.registers = omega arith in
     sym (c.loop-i.invariant.1
-    ∙ ended unknown_register start.args.registers start.args.count c.loop-i.i h (omega arith))
+    ∙ ended unknown_register c.args.registers c.args.count c.loop-i.i h (omega arith))

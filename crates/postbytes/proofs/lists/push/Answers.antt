@@ -33,23 +33,21 @@ has-requires c = stack_small _ (neither_left _ _ c.if-bad.false)
 pub returns-then-barred : goal.returns-then-barred
 unfolding push_of pick
 returns-then-barred c =
-    let set = c in
-    let a = set.args in
+    let a = c.args in
     let e : c.has.result ≡ among a.own (take a.count a.registers) =
-    own_in_set a.own (take a.count a.registers) (neither_left _ _ set.if-bad.false) set.set_of-set.ensures c.has.ensures
+    own_in_set a.own (take a.count a.registers) (neither_left _ _ c.if-bad.false) c.set_of-set.ensures c.has.ensures
     in
-    rw (← set.strange.ensures, set.if-bad.false, ← e, c.if-barred.true) c.refused-then-barred.ensures
+    rw (← c.strange.ensures, c.if-bad.false, ← e, c.if-barred.true) c.refused-then-barred.ensures
 
 pub returns : goal.returns
 unfolding push_of pick
 returns c =
-    let set = c in
-    let a = set.args in
+    let a = c.args in
     let list = take a.count a.registers in
     let e : c.has.result ≡ among a.own list =
-    own_in_set a.own list (neither_left _ _ set.if-bad.false) set.set_of-set.ensures c.has.ensures
+    own_in_set a.own list (neither_left _ _ c.if-bad.false) c.set_of-set.ensures c.has.ensures
     in
     let b : c.push_byte.result ≡ push_byte_of a.own list =
-    c.push_byte.ensures ∙ ap (ticks_of_set (boxes a.own)) set.set_of-set.ensures ∙ push_byte_of_set a.own list
+    c.push_byte.ensures ∙ ap (ticks_of_set (boxes a.own)) c.set_of-set.ensures ∙ push_byte_of_set a.own list
     in
-    rw (← set.strange.ensures, set.if-bad.false, ← e, c.if-barred.false) (c.listed.ensures ∙ ap listed b)
+    rw (← c.strange.ensures, c.if-bad.false, ← e, c.if-barred.false) (c.listed.ensures ∙ ap listed b)

@@ -31,16 +31,14 @@ moved-byte-requires c =
 
 pub overflow_add-byte : goal.overflow_add-byte
 overflow_add-byte c =
-    let here = c in
-    let a = here.args in
-    let t = turn a.own a.set here.loop-i.i here.loop-i.byte c.moved-byte.result here.boxes-row.ensures here.loop-i.invariant.1 (omega arith) c.moved-byte.ensures in
+    let a = c.args in
+    let t = turn a.own a.set c.loop-i.i c.loop-i.byte c.moved-byte.result c.boxes-row.ensures c.loop-i.invariant.1 (omega arith) c.moved-byte.ensures in
     omega (arith, t.0, set_ticks_small a.own a.set)
 
 pub loop-i-preserved : goal.loop-i-preserved
 loop-i-preserved c =
-    let here = c in
-    let a = here.args in
-    let t = turn a.own a.set here.loop-i.i here.loop-i.byte c.moved-byte.result here.boxes-row.ensures here.loop-i.invariant.1 (omega arith) c.moved-byte.ensures in
+    let a = c.args in
+    let t = turn a.own a.set c.loop-i.i c.loop-i.byte c.moved-byte.result c.boxes-row.ensures c.loop-i.invariant.1 (omega arith) c.moved-byte.ensures in
     (omega arith, t.1)
 
 pub overflow_cast-result : goal.overflow_cast-result

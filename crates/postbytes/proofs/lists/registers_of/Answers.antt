@@ -31,16 +31,14 @@ moved-set-requires c =
 
 pub overflow_add-set : goal.overflow_add-set
 overflow_add-set c =
-    let here = c in
-    let a = here.args in
-    let t = turn a.own a.byte here.loop-i.i here.loop-i.set c.moved-set.result here.boxes-row.ensures here.loop-i.invariant.1 (omega arith) c.moved-set.ensures in
+    let a = c.args in
+    let t = turn a.own a.byte c.loop-i.i c.loop-i.set c.moved-set.result c.boxes-row.ensures c.loop-i.invariant.1 (omega arith) c.moved-set.ensures in
     omega (arith, t.0, ticked_small a.own a.byte)
 
 pub loop-i-preserved : goal.loop-i-preserved
 loop-i-preserved c =
-    let here = c in
-    let a = here.args in
-    let t = turn a.own a.byte here.loop-i.i here.loop-i.set c.moved-set.result here.boxes-row.ensures here.loop-i.invariant.1 (omega arith) c.moved-set.ensures in
+    let a = c.args in
+    let t = turn a.own a.byte c.loop-i.i c.loop-i.set c.moved-set.result c.boxes-row.ensures c.loop-i.invariant.1 (omega arith) c.moved-set.ensures in
     (omega arith, t.1)
 
 pub returns : goal.returns

@@ -18,18 +18,16 @@ loop-i-init c = (omega arith, (omega arith, refl))
 
 pub returns-then-end-i : goal.returns-then-end-i
 returns-then-end-i c =
-    let start = c in
-    let e : c.loop-i.i ≡ start.args.count = omega arith in
-    c.loop-i.invariant.1.1 ∙ ap (λ (k : ℕ). set_of (take k start.args.registers)) e
+    let e : c.loop-i.i ≡ c.args.count = omega arith in
+    c.loop-i.invariant.1.1 ∙ ap (λ (k : ℕ). set_of (take k c.args.registers)) e
 
 pub loop-i-preserved : goal.loop-i-preserved
 loop-i-preserved c =
-    let here = c in
-    let l = here.args.registers in (
+    let l = c.args.registers in (
       omega arith,
       (
         omega arith,
-        ap₂ bit_or here.loop-i.invariant.1.1 c.named-set.ensures ∙ sym (set_more l here.loop-i.i (omega arith)),
+        ap₂ bit_or c.loop-i.invariant.1.1 c.named-set.ensures ∙ sym (set_more l c.loop-i.i (omega arith)),
       ),
     )
 

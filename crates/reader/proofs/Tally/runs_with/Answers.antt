@@ -3,7 +3,6 @@
 use mathlib.Core.Path.{sym, ◌∙◌}
 use Rattle.ground.proofs.Choices.{pick_true, pick_false}
 use Rattle.reader.specs.Steps.{runs_with}
-use borrow.Author.Rules.{rules}
 use Rattle.reader.proofs.Tally.runs_with.Goals as goal
 
 pub returns-then-begins : goal.returns-then-begins

@@ -3,7 +3,6 @@
 use mathlib.Core.Path.{sym, ◌∙◌}
 use Rattle.ground.proofs.Choices.{pick_true, pick_false}
 use Rattle.reader.specs.Steps.{total}
-use borrow.Author.Rules.{rules}
 use Rattle.reader.proofs.Tally.total.Goals as goal
 
 pub returns-then-self : goal.returns-then-self

@@ -1,7 +1,6 @@
 -- `Tally::with` meets its contract, field by field.
 -- Assumes nothing.
 use Rattle.reader.specs.Steps.{counted}
-use borrow.Author.Rules.{rules}
 use Rattle.reader.proofs.Tally.with.Goals as goal
 
 pub returns : goal.returns

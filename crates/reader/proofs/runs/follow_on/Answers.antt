@@ -1,13 +1,7 @@
 -- `reader::runs::follow_on` meets its contract: a run goes on from where it stands as it does from its start.
 -- Assumes nothing.
-use borrow.Author.Rules.{rules}
-use mathlib.Core.Path.{◌≡◌}
-use Prim.Native.Nat.{◌-◌, ◌≤◌}
 use native.Mathlib.Omega.{arith}
-use lib.ListN.{length}
-use Rattle.records.specs.Text.{Rec}
-use Rattle.reader.proofs.Stretches.{Going, going_first, stops_end, stops_broken, stops_off, goes_on_lem}
-use Rattle.records.proofs.Joins.{after}
+use Rattle.reader.proofs.Stretches.{going_first, stops_end, stops_broken, stops_off, goes_on_lem}
 use Rattle.reader.proofs.Tallies.{fits_here}
 use Rattle.reader.proofs.runs.follow_on.Goals as goal
 
@@ -19,11 +13,10 @@ line_at-line-requires c = c.loop-address.invariant.1
 
 pub returns-then-address-end : goal.returns-then-address-end
 returns-then-address-end c =
-    let l = c in
     record {
-      each = λ p h. stops_off _ _ p _ _ (l.loop-address.invariant.0 p h) _ l.line_at-line.ensures _ _ _ _ c.in-Data.is c.if-address-end.true;
-      within = l.loop-address.invariant.1;
-      longer = l.loop-address.invariant.2;
+      each = λ p h. stops_off _ _ p _ _ (c.loop-address.invariant.0 p h) _ c.line_at-line.ensures _ _ _ _ c.in-Data.is c.if-address-end.true;
+      within = c.loop-address.invariant.1;
+      longer = c.loop-address.invariant.2;
     }
 
 pub overflow_add-end : goal.overflow_add-end
@@ -38,28 +31,25 @@ loop-address-smaller c =
 
 pub loop-address-preserved : goal.loop-address-preserved
 loop-address-preserved c =
-    let l = c in
     let e = c.in-Data.is in
-    let f = fits_here _ _ _ l.line_at-line.ensures _ _ _ _ e in (
-      λ p h. goes_on_lem _ _ p _ _ (l.loop-address.invariant.0 p h) _ l.line_at-line.ensures _ _ _ _ e c.if-address-end.false,
+    let f = fits_here _ _ _ c.line_at-line.ensures _ _ _ _ e in (
+      λ p h. goes_on_lem _ _ p _ _ (c.loop-address.invariant.0 p h) _ c.line_at-line.ensures _ _ _ _ e c.if-address-end.false,
       f.within,
-      omega (arith, l.loop-address.invariant.2),
+      omega (arith, c.loop-address.invariant.2),
     )
 
 pub returns-in-End : goal.returns-in-End
 returns-in-End c =
-    let l = c in
     record {
-      each = λ p h. stops_end _ _ p _ _ (l.loop-address.invariant.0 p h) _ l.line_at-line.ensures c.in-End.is;
-      within = l.loop-address.invariant.1;
-      longer = l.loop-address.invariant.2;
+      each = λ p h. stops_end _ _ p _ _ (c.loop-address.invariant.0 p h) _ c.line_at-line.ensures c.in-End.is;
+      within = c.loop-address.invariant.1;
+      longer = c.loop-address.invariant.2;
     }
 
 pub returns-in-Broken : goal.returns-in-Broken
 returns-in-Broken c =
-    let l = c in
     record {
-      each = λ p h. stops_broken _ _ p _ _ (l.loop-address.invariant.0 p h) _ l.line_at-line.ensures c.in-Broken.is;
-      within = l.loop-address.invariant.1;
-      longer = l.loop-address.invariant.2;
+      each = λ p h. stops_broken _ _ p _ _ (c.loop-address.invariant.0 p h) _ c.line_at-line.ensures c.in-Broken.is;
+      within = c.loop-address.invariant.1;
+      longer = c.loop-address.invariant.2;
     }

@@ -1,7 +1,6 @@
 -- `reader::runs::read_run` meets its contract: measured first, stored second.
 -- Assumes nothing.
 use Rattle.reader.proofs.Handing.{run_within, run_refused, run_left, run_stored}
-use borrow.Author.Rules.{rules}
 use Rattle.reader.proofs.runs.read_run.Goals as goal
 
 pub returns-then-bytes-run : goal.returns-then-bytes-run

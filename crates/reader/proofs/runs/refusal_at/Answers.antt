@@ -2,7 +2,6 @@
 -- Assumes nothing.
 use Rattle.reader.proofs.Handing.{asked_start, asked_before}
 use native.Mathlib.Omega.{arith}
-use borrow.Author.Rules.{rules}
 use Rattle.reader.proofs.runs.refusal_at.Goals as goal
 
 pub returns-then-at-eq0 : goal.returns-then-at-eq0

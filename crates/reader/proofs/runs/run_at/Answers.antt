@@ -2,7 +2,6 @@
 -- Assumes nothing.
 use mathlib.Core.Path.{sym, ◌∙◌}
 use Rattle.reader.proofs.Handing.{asked_refused, asked_there}
-use borrow.Author.Rules.{rules}
 use Rattle.reader.proofs.runs.run_at.Goals as goal
 
 pub returns-then-refusal-ne0 : goal.returns-then-refusal-ne0

@@ -3,7 +3,6 @@
 use mathlib.Core.Path.{◌∙◌}
 use native.Mathlib.Omega.{arith}
 use Rattle.reader.proofs.Stretches.{far_run, near_run}
-use borrow.Author.Rules.{rules}
 use Rattle.reader.proofs.runs.run_from.Goals as goal
 
 pub returns-then-run-gt65536 : goal.returns-then-run-gt65536

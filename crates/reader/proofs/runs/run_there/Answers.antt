@@ -3,7 +3,6 @@
 use mathlib.Core.Path.{◌∙◌}
 use Rattle.reader.proofs.Stretches.{run_past, run_end, run_broken, run_data}
 use Rattle.reader.proofs.Tallies.{fits_here}
-use borrow.Author.Rules.{rules}
 use Rattle.reader.proofs.runs.run_there.Goals as goal
 
 pub returns-then-text-at : goal.returns-then-text-at

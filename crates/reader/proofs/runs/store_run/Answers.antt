@@ -1,10 +1,7 @@
 -- `reader::runs::store_run` meets its contract: the bytes of the run so far are stored, and each line that follows on adds its own.
 -- Assumes nothing.
-use borrow.Author.Rules.{rules}
-use Prim.Native.Nat.{◌-◌}
 use native.Mathlib.Omega.{arith}
-use lib.ListN.{length}
-use Rattle.reader.proofs.Stretches.{Filling, filling_first, filling_begun, filling_room, filled_end, filled_broken, filled_off, filling_on}
+use Rattle.reader.proofs.Stretches.{filling_first, filling_begun, filling_room, filled_end, filled_broken, filled_off, filling_on}
 use Rattle.reader.proofs.Tallies.{fits_here}
 use Rattle.reader.proofs.runs.store_run.Goals as goal
 
@@ -25,26 +22,22 @@ overflow_sub-place c = filling_begun c.loop-address.invariant
 
 pub store_bytes-requires : goal.store_bytes-requires
 store_bytes-requires c =
-    let l = c in
-    let f = fits_here _ _ _ l.line_at-line.ensures _ _ _ _ c.in-Data.is in
+    let f = fits_here _ _ _ c.line_at-line.ensures _ _ _ _ c.in-Data.is in
     (f.there, omega (arith, c.if-address-end.false, f.few))
 
 pub overflow_add-end : goal.overflow_add-end
 overflow_add-end c =
-    let l = c in
-    let f = fits_here _ _ _ l.line_at-line.ensures _ _ _ _ c.in-Data.is in
+    let f = fits_here _ _ _ c.line_at-line.ensures _ _ _ _ c.in-Data.is in
     omega (arith, c.if-address-end.false, f.few)
 
 pub loop-address-smaller : goal.loop-address-smaller
 loop-address-smaller c =
-    let l = c in
-    let f = fits_here _ _ _ l.line_at-line.ensures _ _ _ _ c.in-Data.is in
+    let f = fits_here _ _ _ c.line_at-line.ensures _ _ _ _ c.in-Data.is in
     omega (arith, f.long, f.within)
 
 pub loop-address-preserved : goal.loop-address-preserved
 loop-address-preserved c =
-    let l = c in
-    filling_on _ _ _ _ _ _ _ l.loop-address.invariant _ l.line_at-line.ensures _ _ _ _ c.in-Data.is _
+    filling_on _ _ _ _ _ _ _ c.loop-address.invariant _ c.line_at-line.ensures _ _ _ _ c.in-Data.is _
     c.if-address-end.false
     c.store_bytes.ensures
 

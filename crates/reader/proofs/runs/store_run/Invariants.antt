@@ -1,11 +1,8 @@
 -- `reader::runs::store_run` meets its contract: the bytes of the run so far are stored, and each line that follows on adds its own.
 -- Assumes nothing.
-use borrow.Author.Rules.{rules}
 use Prim.Native.Nat.{◌-◌}
-use native.Mathlib.Omega.{arith}
 use lib.ListN.{length}
-use Rattle.reader.proofs.Stretches.{Filling, filling_first, filling_begun, filling_room, filled_end, filled_broken, filled_off, filling_on}
-use Rattle.reader.proofs.Tallies.{fits_here}
+use Rattle.reader.proofs.Stretches.{Filling}
 use Rattle.reader.proofs.runs.store_run.Given as goal
 
 abbrev pub invariant-loop-address : goal.invariant-loop-address

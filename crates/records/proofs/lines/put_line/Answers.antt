@@ -12,14 +12,12 @@ use Rattle.records.proofs.lines.put_line.Goals.{After-bytes-filled}
 -- after the data there is room for check and line feed
 places : (c : After-bytes-filled) → c.bytes-filled.result.at + 3 < 2 ^ 64
 places c =
-    let headed = c in
-    let start = headed in
     omega (
       arith,
       c.bytes-filled.ensures.digits.next,
-      length_hexes start.args.bytes.now,
-      headed.head-headed.ensures.digits.next,
-      start.requires.1,
+      length_hexes c.args.bytes.now,
+      c.head-headed.ensures.digits.next,
+      c.requires.1,
     )
 
 pub returns-then-out-at : goal.returns-then-out-at
@@ -36,23 +34,17 @@ check-closed-requires c = omega (arith, places (goal.at.check-closed-requires c)
 
 pub overflow_add-result-2 : goal.overflow_add-result-2
 overflow_add-result-2 c =
-    let closed = c in
-    omega (arith, closed.check-closed.ensures.digits.next, places (goal.at.overflow_add-result-2 c).After-bytes-filled)
+    omega (arith, c.check-closed.ensures.digits.next, places (goal.at.overflow_add-result-2 c).After-bytes-filled)
 
 pub returns : goal.returns
 returns c =
-    let fed = c in
-    let closed = fed in
-    let filled = closed in
-    let headed = filled in
-    let begun = headed in
-    let a = begun.args in
+    let a = c.args in
     line_wrote
     a.kind
     a.address
     a.bytes.now
-    begun.store.ensures
-    headed.head-headed.ensures
-    filled.bytes-filled.ensures
-    closed.check-closed.ensures
-    fed.store-2.ensures
+    c.store.ensures
+    c.head-headed.ensures
+    c.bytes-filled.ensures
+    c.check-closed.ensures
+    c.store-2.ensures

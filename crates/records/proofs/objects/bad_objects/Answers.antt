@@ -33,20 +33,17 @@ loop-i-init c = (refl, omega arith)
 
 pub returns-then-row-left : goal.returns-then-row-left
 returns-then-row-left c =
-    let read = c in
     let bad : test (goal.at.returns-then-row-left c).After-row_at-row ≡ true = c.if-row-left.true in
     rw bad at (row_next (goal.at.returns-then-row-left c).After-row_at-row)
 
 pub overflow_sub-left : goal.overflow_sub-left
 overflow_sub-left c =
-    let read = c in
-    let l = read.loop-i in
-    let row = read.row_at-row.result in
+    let l = c.loop-i in
+    let row = c.row_at-row.result in
     ltb-false l.left row.count (neither_right (ltb 1 row.kind) (ltb l.left row.count) c.if-row-left.false)
 
 pub loop-i-preserved : goal.loop-i-preserved
 loop-i-preserved c =
-    let read = c in
     let good : test (goal.at.loop-i-preserved c).After-row_at-row ≡ false = c.if-row-left.false in
     (rw good at (row_next (goal.at.loop-i-preserved c).After-row_at-row), omega arith)
 

@@ -14,19 +14,17 @@ loop-k-init c = (refl, omega arith)
 
 pub returns-then-not-fits : goal.returns-then-not-fits
 returns-then-not-fits c =
-    let at_loop = c in
-    let vs = at_loop.args.values.now in
-    let k = at_loop.loop-k.k in
+    let vs = c.args.values.now in
+    let k = c.loop-k.k in
     let bad : not (fits (get_or vs k 0) (get_or vs (k + 1) 0)) ≡ true = cc in
-    rw bad at (sym (values_next vs k (omega arith)) ∙ at_loop.loop-k.invariant.0)
+    rw bad at (sym (values_next vs k (omega arith)) ∙ c.loop-k.invariant.0)
 
 pub loop-k-preserved : goal.loop-k-preserved
 loop-k-preserved c =
-    let at_loop = c in
-    let vs = at_loop.args.values.now in
-    let k = at_loop.loop-k.k in
+    let vs = c.args.values.now in
+    let k = c.loop-k.k in
     let good : not (fits (get_or vs k 0) (get_or vs (k + 1) 0)) ≡ false = cc in
-    (rw good at (sym (values_next vs k (omega arith)) ∙ at_loop.loop-k.invariant.0), omega arith)
+    (rw good at (sym (values_next vs k (omega arith)) ∙ c.loop-k.invariant.0), omega arith)
 
 pub returns : goal.returns
 returns c =

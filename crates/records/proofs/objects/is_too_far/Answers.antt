@@ -49,14 +49,12 @@ size_of-requires c = there (goal.at.size_of-requires c).After-row_at-row
 
 pub overflow_add-row : goal.overflow_add-row
 overflow_add-row c =
-    let read = c in
-    let l = read.loop-i in
-    let vs = read.args.values.now in
-    omega (arith, c.size_of.ensures, data_small (drop l.k vs) read.row_at-row.result.count)
+    let l = c.loop-i in
+    let vs = c.args.values.now in
+    omega (arith, c.size_of.ensures, data_small (drop l.k vs) c.row_at-row.result.count)
 
 pub returns-then-row-size_of-gt65536 : goal.returns-then-row-size_of-gt65536
 returns-then-row-size_of-gt65536 c =
-    let read = c in
     rw (lt-ltb 65536 (end (goal.at.returns-then-row-size_of-gt65536 c).After-row_at-row) (omega (arith, c.size_of.ensures))) at (row_next (goal.at.returns-then-row-size_of-gt65536 c).After-row_at-row (omega arith))
 
 pub overflow_mul-k : goal.overflow_mul-k
@@ -67,11 +65,10 @@ overflow_add-k c = omega (arith, there (goal.at.overflow_add-k c).After-row_at-r
 
 pub loop-i-preserved : goal.loop-i-preserved
 loop-i-preserved c =
-    let read = c in
-    let a = read.args in
-    let l = read.loop-i in (
+    let a = c.args in
+    let l = c.loop-i in (
       rw (le-ltb 65536 (end (goal.at.loop-i-preserved c).After-row_at-row) (omega (arith, c.size_of.ensures))) at (row_next (goal.at.loop-i-preserved c).After-row_at-row (omega arith)),
-      left_next a.objects.now l.i read.row_at-row.result (omega arith) read.row_at-row.ensures a.values.now l.k l.invariant.1,
+      left_next a.objects.now l.i c.row_at-row.result (omega arith) c.row_at-row.ensures a.values.now l.k l.invariant.1,
     )
 
 pub returns : goal.returns

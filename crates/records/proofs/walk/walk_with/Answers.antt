@@ -18,46 +18,38 @@ first bytes = record { start = 0; n = 0; at = 0; bytes = bytes }
 
 -- the values that are left are there, and their places fit a usize
 short : (c : At-values) → (c.values.k + 2 * c.values.left) * 2 < 2 ^ 63
-short c = let start = c in omega (arith, c.values.invariant.there)
+short c = omega (arith, c.values.invariant.there)
 
 pub objects-init : goal.objects-init
 objects-init c =
-    let start = c in
-    let a = start.args in
+    let a = c.args in
     record {
-      way = along_here a.out.now _ (events (objects_of a.objects.now a.values.now)) (omega arith) start.requires.0;
-      left = left_first a.objects.now a.values.now start.requires.1;
-      near = start.requires.2;
+      way = along_here a.out.now _ (events (objects_of a.objects.now a.values.now)) (omega arith) c.requires.0;
+      left = left_first a.objects.now a.values.now c.requires.1;
+      near = c.requires.2;
       place = omega arith;
       within = omega arith;
     }
 
 pub objects-preserved-then-row-ne1 : goal.objects-preserved-then-row-ne1
 objects-preserved-then-row-ne1 c =
-    let read = c in
-    outer_without read.objects.invariant read.row_at-row.result (omega arith) read.row_at-row.ensures (omega arith) c.if-row-ne1.true
+    outer_without c.objects.invariant c.row_at-row.result (omega arith) c.row_at-row.ensures (omega arith) c.if-row-ne1.true
 
 pub begin-present-requires : goal.begin-present-requires
 begin-present-requires c =
-    let at = c in
-    let w = at.objects.invariant in
-    let start = at in
-    (w.way.whole, w.way.small, w.place, omega (arith, w.within, start.requires.3))
+    let w = c.objects.invariant in
+    (w.way.whole, w.way.small, w.place, omega (arith, w.within, c.requires.3))
 
 pub values-init : goal.values-init
 values-init c =
-    let begun = c in
-    let read = begun in
-    let inv = read.objects.invariant in
-    outer_begun inv read.row_at-row.result (omega arith) read.row_at-row.ensures (omega arith) begun.if-row-ne1.false
-    begun.begin-present.ensures begun.begin-present.auto.out (omega arith)
+    let inv = c.objects.invariant in
+    outer_begun inv c.row_at-row.result (omega arith) c.row_at-row.ensures (omega arith) c.if-row-ne1.false
+    c.begin-present.ensures c.begin-present.auto.out (omega arith)
 
 pub objects-preserved : goal.objects-preserved
 objects-preserved c =
-    let begun = c in
-    let read = begun in
-    outer_with read.objects.invariant read.row_at-row.result (omega arith) read.row_at-row.ensures (omega arith)
-    begun.if-row-ne1.false begun.begin-present.ensures begun.begin-present.auto.out c.values.invariant c.values-test.false
+    outer_with c.objects.invariant c.row_at-row.result (omega arith) c.row_at-row.ensures (omega arith)
+    c.if-row-ne1.false c.begin-present.ensures c.begin-present.auto.out c.values.invariant c.values-test.false
 
 pub offset_bounds-values-k : goal.offset_bounds-values-k
 offset_bounds-values-k c = omega (arith, short (goal.at.offset_bounds-values-k c).At-values)
@@ -76,13 +68,11 @@ bounds-values-k-in-values c = omega (arith, c.values.invariant.there)
 
 pub value-present-requires : goal.value-present-requires
 value-present-requires c =
-    let at = c in
-    let l = at.values in
-    let start = at in (
+    let l = c.values in (
       l.invariant.way.whole,
       l.invariant.way.small,
-      value_near start.args.values.now l.k l.left l.invariant c.values-test.true,
-      omega (arith, l.invariant.within, start.requires.3),
+      value_near c.args.values.now l.k l.left l.invariant c.values-test.true,
+      omega (arith, l.invariant.within, c.requires.3),
     )
 
 pub overflow_add-k-in-values : goal.overflow_add-k-in-values
@@ -90,12 +80,10 @@ overflow_add-k-in-values c = omega (arith, short (goal.at.overflow_add-k-in-valu
 
 pub values-preserved : goal.values-preserved
 values-preserved c =
-    let valued = c in
-    let at = valued in
-    let l = at.values in
-    let vs = at.args.values.now in
-    inner_again vs l.k l.left l.invariant valued.values-test.true
-    valued.value-present.ensures valued.value-present.auto.out (omega arith)
+    let l = c.values in
+    let vs = c.args.values.now in
+    inner_again vs l.k l.left l.invariant c.values-test.true
+    c.value-present.ensures c.value-present.auto.out (omega arith)
 
 -- the three ways out of the loops
 outcome :
@@ -120,16 +108,13 @@ outcome c =
 
 pub finish-requires : goal.finish-requires
 finish-requires c =
-    let left = c in
-    let start = left in
     let o = outcome (goal.at.finish-requires c).Left-objects in
     let w = o.going (omega arith) in
-    (o.whole, w.0.small, w.1, omega (arith, start.requires.3))
+    (o.whole, w.0.small, w.1, omega (arith, c.requires.3))
 
 pub shape_of-bytes-then-room-present-3 : goal.shape_of-bytes-then-room-present-3
 shape_of-bytes-then-room-present-3 c =
-    let left = c in
-    (outcome (goal.at.shape_of-bytes-then-room-present-3 c).Left-objects).whole ∙ sym left.requires.0
+    (outcome (goal.at.shape_of-bytes-then-room-present-3 c).Left-objects).whole ∙ sym c.requires.0
 
 pub shape_of-out-then-room-present-3 : goal.shape_of-out-then-room-present-3
 shape_of-out-then-room-present-3 c = (outcome (goal.at.shape_of-out-then-room-present-3 c).Left-objects).long
@@ -137,14 +122,12 @@ shape_of-out-then-room-present-3 c = (outcome (goal.at.shape_of-out-then-room-pr
 pub returns-then-room-present-3 : goal.returns-then-room-present-3
 unfolding text_of recs
 returns-then-room-present-3 c =
-    let left = c in
-    let a = left.args in
+    let a = c.args in
     walked_over (text_of a.objects.now a.values.now) refl refl (outcome (goal.at.returns-then-room-present-3 c).Left-objects) c.if-room-present-3.true
 
 pub shape_of-bytes-else-room-present-3 : goal.shape_of-bytes-else-room-present-3
 shape_of-bytes-else-room-present-3 c =
-    let left = c in
-    (outcome (goal.at.shape_of-bytes-else-room-present-3 c).Left-objects).whole ∙ sym left.requires.0
+    (outcome (goal.at.shape_of-bytes-else-room-present-3 c).Left-objects).whole ∙ sym c.requires.0
 
 pub shape_of-out-else-room-present-3 : goal.shape_of-out-else-room-present-3
 shape_of-out-else-room-present-3 c = c.finish.auto.out ∙ (outcome (goal.at.shape_of-out-else-room-present-3 c).Left-objects).long
@@ -152,6 +135,5 @@ shape_of-out-else-room-present-3 c = c.finish.auto.out ∙ (outcome (goal.at.sha
 pub returns-else-room-present-3 : goal.returns-else-room-present-3
 unfolding text_of recs
 returns-else-room-present-3 c =
-    let left = c in
-    let a = left.args in
+    let a = c.args in
     walked_done (text_of a.objects.now a.values.now) refl refl (outcome (goal.at.returns-else-room-present-3 c).Left-objects) (omega arith) c.finish.ensures

@@ -10,49 +10,43 @@ use Rattle.roundtrip.proofs.comparing.agree.Goals as goal
 use Rattle.roundtrip.proofs.comparing.agree.Goals.{Else-not-alike}
 
 pub loop-place-init : goal.loop-place-init
-loop-place-init c = let s = c in
-    agreeing_first s.args.list.now s.args.theirs.now (origin s.args.address s.args.page) (omega arith) s.requires
+loop-place-init c = agreeing_first c.args.list.now c.args.theirs.now (origin c.args.address c.args.page) (omega arith) c.requires
 
 pub overflow_mul-place : goal.overflow_mul-place
-overflow_mul-place c = let s = c in
-    let n = agreeing_near s.args.list.now s.args.theirs.now (origin s.args.address s.args.page) (omega arith) s.requires c.loop-place.invariant in
+overflow_mul-place c =
+    let n = agreeing_near c.args.list.now c.args.theirs.now (origin c.args.address c.args.page) (omega arith) c.requires c.loop-place.invariant in
     omega (arith, n.1)
 
 pub overflow_add-address : goal.overflow_add-address
-overflow_add-address c = let s = c in
-    let n = agreeing_near s.args.list.now s.args.theirs.now (origin s.args.address s.args.page) (omega arith) s.requires c.loop-place.invariant in
+overflow_add-address c =
+    let n = agreeing_near c.args.list.now c.args.theirs.now (origin c.args.address c.args.page) (omega arith) c.requires c.loop-place.invariant in
     omega (arith, n.0)
 
 pub meant_at-mine-requires : goal.meant_at-mine-requires
-meant_at-mine-requires c = let s = c in
-    (agreeing_near s.args.list.now s.args.theirs.now (origin s.args.address s.args.page) (omega arith) s.requires c.loop-place.invariant).1
+meant_at-mine-requires c = (agreeing_near c.args.list.now c.args.theirs.now (origin c.args.address c.args.page) (omega arith) c.requires c.loop-place.invariant).1
 
 pub returns-then-not-alike : goal.returns-then-not-alike
 unfolding rows_in
-returns-then-not-alike c = let s = c in
-    let x = c in
+returns-then-not-alike c =
     let m = c.meant_at-mine in
     let o = c.next_of_run-other in
     let e = c.same-alike.ensures in
-    agreeing_differs s.args.list.now s.args.theirs.now (origin s.args.address s.args.page) (omega arith) s.requires
-    x.loop-place.at x.loop-place.place x.loop-place.invariant c.loop-place-test.true m.result o.result m.ensures o.ensures
+    agreeing_differs c.args.list.now c.args.theirs.now (origin c.args.address c.args.page) (omega arith) c.requires
+    c.loop-place.at c.loop-place.place c.loop-place.invariant c.loop-place-test.true m.result o.result m.ensures o.ensures
     (sym e ∙ c.if-not-alike.true)
 
 -- a turn that agreed
 agreed_on :
     (c : Else-not-alike) →
-    let s = c in
-    let x = c in
-    Agreeing s.args.list.now s.args.theirs.now (origin s.args.address s.args.page)
-    (x.loop-place.at + c.meant_at-mine.result.length) (x.loop-place.place + 1)
+    Agreeing c.args.list.now c.args.theirs.now (origin c.args.address c.args.page)
+    (c.loop-place.at + c.meant_at-mine.result.length) (c.loop-place.place + 1)
 unfolding rows_in
-agreed_on c = let s = c in
-    let x = c in
+agreed_on c =
     let m = c.meant_at-mine in
     let o = c.next_of_run-other in
     let e = c.same-alike.ensures in
-    agreeing_more s.args.list.now s.args.theirs.now (origin s.args.address s.args.page) (omega arith) s.requires
-    x.loop-place.at x.loop-place.place x.loop-place.invariant c.loop-place-test.true m.result o.result m.ensures o.ensures
+    agreeing_more c.args.list.now c.args.theirs.now (origin c.args.address c.args.page) (omega arith) c.requires
+    c.loop-place.at c.loop-place.place c.loop-place.invariant c.loop-place-test.true m.result o.result m.ensures o.ensures
     (sym e ∙ c.if-not-alike.false)
 
 pub overflow_add-at : goal.overflow_add-at
@@ -70,6 +64,5 @@ loop-place-preserved c = agreed_on (goal.at.loop-place-preserved c).Else-not-ali
 
 pub returns : goal.returns
 unfolding rows_in
-returns c = let s = c in
-    agreeing_end s.args.list.now s.args.theirs.now (origin s.args.address s.args.page) (omega arith) s.requires
+returns c = agreeing_end c.args.list.now c.args.theirs.now (origin c.args.address c.args.page) (omega arith) c.requires
     c.loop-place.at c.loop-place.place c.loop-place.invariant c.loop-place-test.false

@@ -6,12 +6,12 @@ use Rattle.roundtrip.proofs.Texts.{list_refused, list_laid}
 use Rattle.roundtrip.proofs.comparing.compare_list.Goals as goal
 
 pub returns-then-laid-ne0 : goal.returns-then-laid-ne0
-returns-then-laid-ne0 c = let s = c in
+returns-then-laid-ne0 c =
     let l = c.measure-laid in
-    c.refuse.ensures ∙ list_refused s.args.list.now s.args.address s.args.page s.args.text.now l.result l.ensures c.if-laid-ne0.true
+    c.refuse.ensures ∙ list_refused c.args.list.now c.args.address c.args.page c.args.text.now l.result l.ensures c.if-laid-ne0.true
 
 pub returns : goal.returns
-returns c = let s = c in
+returns c =
     let l = c.measure-laid in
     c.compare_text.ensures
-    ∙ list_laid s.args.list.now s.args.address s.args.page s.args.text.now l.result (omega arith) l.ensures c.if-laid-ne0.false
+    ∙ list_laid c.args.list.now c.args.address c.args.page c.args.text.now l.result (omega arith) l.ensures c.if-laid-ne0.false

@@ -11,11 +11,10 @@ use Rattle.roundtrip.proofs.Values.{front_values}
 use Rattle.roundtrip.proofs.writing.write_bytes.Goals as goal
 
 pub slice_bounds-write_text-end-3 : goal.slice_bounds-write_text-end-3
-slice_bounds-write_text-end-3 c = let s = c in
-    sym (ap length (front_values s.args.bytes.now s.args.values.now _ s.requires.1 c.store_values.ensures) ∙ byte_rows_length s.args.bytes.now)
+slice_bounds-write_text-end-3 c = sym (ap length (front_values c.args.bytes.now c.args.values.now _ c.requires.1 c.store_values.ensures) ∙ byte_rows_length c.args.bytes.now)
 
 pub returns : goal.returns
-returns c = let s = c in
+returns c =
     let w = c.write_text in
-    let v = front_values s.args.bytes.now s.args.values.now _ s.requires.1 c.store_values.ensures in
-    let objects = object_for s.args.address s.args.bytes.now in record { value = w.ensures.value ∙ ap (λ (l : List ℕ). written_of objects l (length s.args.out.now)) v; out_after = w.ensures.out_after ∙ ap (λ (l : List ℕ). buffer_of objects l s.args.out.now) v }
+    let v = front_values c.args.bytes.now c.args.values.now _ c.requires.1 c.store_values.ensures in
+    let objects = object_for c.args.address c.args.bytes.now in record { value = w.ensures.value ∙ ap (λ (l : List ℕ). written_of objects l (length c.args.out.now)) v; out_after = w.ensures.out_after ∙ ap (λ (l : List ℕ). buffer_of objects l c.args.out.now) v }

@@ -1,6 +1,5 @@
 -- `statements::Turn::turns` meets its contract.
 -- Assumes nothing.
-use borrow.Author.Rules.{rules}
 use Rattle.statements.proofs.Turn.turns.Goals as goal
 
 pub returns-in-Sets : goal.returns-in-Sets

@@ -4,7 +4,6 @@ use borrow.Author.Tests.{eq-eqb, ne_eqb}
 use Rattle.ground.specs.Choice.{pick}
 use Rattle.instruction.specs.Building.{no_values}
 use Rattle.statements.specs.Asking.{asked_of}
-use borrow.Author.Rules.{rules}
 use Rattle.statements.proofs.asking.ask.Goals as goal
 
 pub returns-then-node-eq-NONE : goal.returns-then-node-eq-NONE

@@ -2,7 +2,6 @@
 -- Assumes nothing.
 use Rattle.ground.specs.Choice.{pick}
 use Rattle.statements.specs.Asking.{byte_of}
-use borrow.Author.Rules.{rules}
 use Rattle.statements.proofs.asking.byte.Goals as goal
 
 pub returns-then-wide : goal.returns-then-wide

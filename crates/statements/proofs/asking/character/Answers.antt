@@ -3,7 +3,6 @@
 use borrow.Author.Tests.{lt-ltb, le-ltb}
 use Rattle.ground.specs.Choice.{pick}
 use Rattle.statements.specs.Asking.{character_of}
-use borrow.Author.Rules.{rules}
 use Rattle.statements.proofs.asking.character.Goals as goal
 
 pub returns-then-number-lt256 : goal.returns-then-number-lt256

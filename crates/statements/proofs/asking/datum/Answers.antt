@@ -1,6 +1,5 @@
 -- `statements::asking::datum` meets its contract.
 -- Assumes nothing.
-use borrow.Author.Rules.{rules}
 use Rattle.statements.proofs.asking.datum.Goals as goal
 
 pub returns-in-Byte : goal.returns-in-Byte

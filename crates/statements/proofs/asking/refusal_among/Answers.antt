@@ -2,13 +2,12 @@
 -- Assumes nothing.
 use mathlib.Core.Path.{◌≡◌, sym, ap, ◌∙◌}
 use mathlib.Core.List.{List}
-use Prim.Native.Nat.{ℕ, ◌-◌, ◌≤◌}
+use Prim.Native.Nat.{ℕ}
 use native.Mathlib.Omega.{arith}
 use Rattle.expressions.specs.declared.Answer.{Answer}
 use Rattle.statements.specs.Order.{earliest}
 use Rattle.statements.specs.Asking.{refusals_in}
 use Rattle.statements.proofs.Turns as turns
-use borrow.Author.Rules.{rules}
 use Rattle.statements.proofs.asking.refusal_among.Goals as goal
 
 pub loop-left-init : goal.loop-left-init

@@ -1,14 +1,10 @@
 -- `statements::asking::refusal_among` meets its contract: asked from the last to the first, the refusal so far is that of the items already asked.
 -- Assumes nothing.
-use mathlib.Core.Path.{◌≡◌, sym, ap, ◌∙◌}
-use mathlib.Core.List.{List}
-use Prim.Native.Nat.{ℕ, ◌-◌, ◌≤◌}
-use native.Mathlib.Omega.{arith}
-use Rattle.expressions.specs.declared.Answer.{Answer}
+use mathlib.Core.Path.{◌≡◌}
+use Prim.Native.Nat.{◌≤◌}
 use Rattle.statements.specs.Order.{earliest}
 use Rattle.statements.specs.Asking.{refusals_in}
 use Rattle.statements.proofs.Turns as turns
-use borrow.Author.Rules.{rules}
 use Rattle.statements.proofs.asking.refusal_among.Given as goal
 
 abbrev pub invariant-loop-left : goal.invariant-loop-left

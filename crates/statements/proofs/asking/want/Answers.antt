@@ -3,7 +3,6 @@
 use borrow.Author.Tests.{eq-eqb, ne_eqb}
 use Rattle.ground.specs.Choice.{pick}
 use Rattle.statements.specs.Asking.{wanted_of}
-use borrow.Author.Rules.{rules}
 use Rattle.statements.proofs.asking.want.Goals as goal
 
 pub returns-then-node-eq-NONE : goal.returns-then-node-eq-NONE

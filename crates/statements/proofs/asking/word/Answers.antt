@@ -3,7 +3,6 @@
 use borrow.Author.Tests.{eq-eqb, ne_eqb}
 use Rattle.ground.specs.Choice.{pick}
 use Rattle.statements.specs.Asking.{word_of}
-use borrow.Author.Rules.{rules}
 use Rattle.statements.proofs.asking.word.Goals as goal
 
 pub returns-then-answer-eq0 : goal.returns-then-answer-eq0

@@ -1,7 +1,6 @@
 -- `statements::effects::built` meets its contract.
 -- Assumes nothing.
 use Rattle.statements.specs.Effects.{built_of}
-use borrow.Author.Rules.{rules}
 use Rattle.statements.proofs.effects.built.Goals as goal
 
 pub returns : goal.returns

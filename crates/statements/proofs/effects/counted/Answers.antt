@@ -3,7 +3,6 @@
 use borrow.Author.Tests.{le-leb, lt-leb, eq-eqb, ne_eqb}
 use Rattle.ground.specs.Choice.{pick}
 use Rattle.statements.specs.Effects.{counted_of}
-use borrow.Author.Rules.{rules}
 use Rattle.statements.proofs.effects.counted.Goals as goal
 
 pub returns-then-end-le-LAST_END : goal.returns-then-end-le-LAST_END

@@ -1,7 +1,6 @@
 -- `statements::effects::data` meets its contract.
 -- Assumes nothing.
 use Rattle.statements.specs.Effects.{data_refusal}
-use borrow.Author.Rules.{rules}
 use Rattle.statements.proofs.effects.data.Goals as goal
 
 pub returns : goal.returns

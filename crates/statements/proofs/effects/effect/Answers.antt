@@ -1,7 +1,6 @@
 -- `statements::effects::effect` meets its contract: each kind of statement has its own effect.
 -- Assumes nothing.
 use Rattle.statements.specs.Effects.{effect_at}
-use borrow.Author.Rules.{rules}
 use Rattle.statements.proofs.effects.effect.Goals as goal
 
 pub returns-in-Label : goal.returns-in-Label

@@ -1,7 +1,6 @@
 -- `statements::effects::entry_refusal` meets its contract.
 -- Assumes nothing.
 use Rattle.statements.specs.Effects.{entry_refusal}
-use borrow.Author.Rules.{rules}
 use Rattle.statements.proofs.effects.entry_refusal.Goals as goal
 
 pub returns : goal.returns

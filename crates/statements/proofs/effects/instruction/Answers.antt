@@ -1,6 +1,5 @@
 -- `statements::effects::instruction` meets its contract.
 -- Assumes nothing.
-use borrow.Author.Rules.{rules}
 use Rattle.statements.proofs.effects.instruction.Goals as goal
 
 pub returns : goal.returns

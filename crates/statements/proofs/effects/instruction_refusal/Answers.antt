@@ -3,7 +3,6 @@
 use borrow.Author.Tests.{eq-eqb, ne_eqb}
 use Rattle.ground.specs.Choice.{pick}
 use Rattle.statements.specs.Effects.{instruction_refusal}
-use borrow.Author.Rules.{rules}
 use Rattle.statements.proofs.effects.instruction_refusal.Goals as goal
 
 pub returns-then-early-ne0 : goal.returns-then-early-ne0

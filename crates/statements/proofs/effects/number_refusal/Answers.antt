@@ -1,7 +1,6 @@
 -- `statements::effects::number_refusal` meets its contract.
 -- Assumes nothing.
 use Rattle.statements.specs.Effects.{number_refusal}
-use borrow.Author.Rules.{rules}
 use Rattle.statements.proofs.effects.number_refusal.Goals as goal
 
 pub returns : goal.returns

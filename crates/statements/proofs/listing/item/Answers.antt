@@ -3,7 +3,6 @@
 use borrow.Author.Tests.{lt-ltb, le-ltb}
 use Rattle.ground.specs.Choice.{pick}
 use Rattle.statements.specs.Listing.{item_at}
-use borrow.Author.Rules.{rules}
 use Rattle.statements.proofs.listing.item.Goals as goal
 
 pub returns-then-at-items : goal.returns-then-at-items

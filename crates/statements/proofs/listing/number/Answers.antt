@@ -3,7 +3,6 @@
 use borrow.Author.Tests.{lt-ltb, le-ltb}
 use Rattle.ground.specs.Choice.{pick}
 use Rattle.statements.specs.Listing.{number_at}
-use borrow.Author.Rules.{rules}
 use Rattle.statements.proofs.listing.number.Goals as goal
 
 pub returns-then-i-rows_of : goal.returns-then-i-rows_of

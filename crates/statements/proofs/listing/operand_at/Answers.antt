@@ -8,7 +8,6 @@ use lib.Seq.{take_all}
 use borrow.Author.Tests.{lt-ltb, le-ltb}
 use Rattle.ground.specs.Choice.{pick}
 use Rattle.statements.specs.Listing.{operand_row, entry_in, entry_at}
-use borrow.Author.Rules.{rules}
 use Rattle.statements.proofs.listing.operand_at.Goals as goal
 
 pub returns-then-i-rows_of : goal.returns-then-i-rows_of

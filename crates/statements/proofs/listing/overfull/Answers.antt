@@ -1,7 +1,6 @@
 -- `statements::listing::overfull` meets its contract.
 -- Assumes nothing.
 use Rattle.statements.specs.Listing.{overfull_at}
-use borrow.Author.Rules.{rules}
 use Rattle.statements.proofs.listing.overfull.Goals as goal
 
 pub returns : goal.returns

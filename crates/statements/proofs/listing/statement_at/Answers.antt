@@ -1,7 +1,6 @@
 -- `statements::listing::statement_at` meets its contract.
 -- Assumes nothing.
 use Rattle.statements.specs.Listing.{statement_at}
-use borrow.Author.Rules.{rules}
 use Rattle.statements.proofs.listing.statement_at.Goals as goal
 
 pub returns : goal.returns

@@ -3,7 +3,6 @@
 use mathlib.Core.Path.{sym, ap, ◌∙◌}
 use Rattle.statements.specs.declared.Effect.{Effect}
 use Rattle.statements.proofs.Alone.{too_many_lem, own, no_room_lem, stored}
-use borrow.Author.Rules.{rules}
 use Rattle.statements.proofs.lone.build.Goals as goal
 
 pub returns-then-overfull : goal.returns-then-overfull

@@ -1,14 +1,13 @@
 -- `statements::objects::store_bytes` meets its contract: what is left, stored after what is stored, is the whole.
 -- Assumes nothing.
-use mathlib.Core.Path.{◌≡◌, refl, sym, ap, ◌∙◌}
-use Prim.Native.Nat.{◌+◌, ◌-◌, ◌*◌, ◌≤◌}
+use mathlib.Core.Path.{refl, sym, ap, ◌∙◌}
+use Prim.Native.Nat.{◌+◌, ◌*◌}
 use native.Mathlib.Nat.{add-zero}
 use native.Mathlib.Omega.{arith}
-use lib.ListN.{length, take, drop, get_or}
+use lib.ListN.{take, drop, get_or}
 use Rattle.ground.specs.Stores.{put}
 use Rattle.records.specs.Objects.{byte_rows}
 use Rattle.statements.proofs.Turns.{row_turn, bytes_next, bytes_none}
-use borrow.Author.Rules.{rules}
 use Rattle.statements.proofs.objects.store_bytes.Goals as goal
 
 pub loop-k-init : goal.loop-k-init

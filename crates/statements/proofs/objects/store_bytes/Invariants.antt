@@ -1,14 +1,10 @@
 -- `statements::objects::store_bytes` meets its contract: what is left, stored after what is stored, is the whole.
 -- Assumes nothing.
-use mathlib.Core.Path.{◌≡◌, refl, sym, ap, ◌∙◌}
+use mathlib.Core.Path.{◌≡◌}
 use Prim.Native.Nat.{◌+◌, ◌-◌, ◌*◌, ◌≤◌}
-use native.Mathlib.Nat.{add-zero}
-use native.Mathlib.Omega.{arith}
-use lib.ListN.{length, take, drop, get_or}
+use lib.ListN.{length, take, drop}
 use Rattle.ground.specs.Stores.{put}
 use Rattle.records.specs.Objects.{byte_rows}
-use Rattle.statements.proofs.Turns.{row_turn, bytes_next, bytes_none}
-use borrow.Author.Rules.{rules}
 use Rattle.statements.proofs.objects.store_bytes.Given as goal
 
 abbrev pub invariant-loop-k : goal.invariant-loop-k

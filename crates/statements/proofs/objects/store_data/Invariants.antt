@@ -1,16 +1,11 @@
 -- `statements::objects::store_data` meets its contract: what is left, stored after what is stored, is the whole.
 -- Assumes nothing.
-use mathlib.Core.Path.{◌≡◌, refl, sym, ap, ◌∙◌}
-use mathlib.Core.List.{List}
+use mathlib.Core.Path.{◌≡◌}
 use Prim.Native.Nat.{◌+◌, ◌-◌, ◌*◌, ◌≤◌}
-use native.Mathlib.Nat.{add-zero}
-use native.Mathlib.Omega.{arith}
 use lib.ListN.{length}
 use Rattle.ground.specs.Stores.{put}
-use Rattle.expressions.specs.declared.Answer.{Answer}
 use Rattle.statements.specs.Asking.{answers_from, rows_in}
-use Rattle.statements.proofs.Turns.{left, left_none, left_all, data_turn}
-use borrow.Author.Rules.{rules}
+use Rattle.statements.proofs.Turns.{left}
 use Rattle.statements.proofs.objects.store_data.Given as goal
 
 abbrev pub invariant-loop-k : goal.invariant-loop-k

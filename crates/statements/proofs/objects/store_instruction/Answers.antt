@@ -7,7 +7,6 @@ use Rattle.instruction.proofs.Padded.{Five}
 use Rattle.statements.specs.Effects.{built_of}
 use Rattle.statements.proofs.Built.{built_five, built_bytes}
 use Rattle.statements.proofs.Lengths.{byte_count}
-use borrow.Author.Rules.{rules}
 use Rattle.statements.proofs.objects.store_instruction.Goals as goal
 
 pub store_bytes-requires : goal.store_bytes-requires

@@ -1,6 +1,5 @@
 -- `statements::objects::store_row` meets its contract: two cells are stored, one after the other.
 -- Assumes nothing.
-use borrow.Author.Rules.{rules}
 use Rattle.statements.proofs.objects.store_row.Goals as goal
 
 pub returns : goal.returns

@@ -3,7 +3,6 @@
 use mathlib.Core.Path.{refl}
 use Rattle.statements.specs.Objects.{values_at}
 use Rattle.statements.proofs.Lengths.{data_count, put_within}
-use borrow.Author.Rules.{rules}
 use Rattle.statements.proofs.objects.store_values.Goals as goal
 
 pub returns-in-Label : goal.returns-in-Label

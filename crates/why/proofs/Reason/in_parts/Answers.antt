@@ -1,6 +1,5 @@
 -- `why::Reason::in_parts` meets its contract.
 -- Assumes nothing.
-use borrow.Author.Rules.{rules}
 use Rattle.why.proofs.Reason.in_parts.Goals as goal
 
 pub returns-in-Plain : goal.returns-in-Plain

@@ -2,7 +2,6 @@
 -- Assumes nothing.
 use mathlib.Core.Bool.{not}
 use mathlib.Core.Path.{ap, ◌∙◌}
-use borrow.Author.Rules.{rules}
 use Rattle.why.proofs.Told.{registers_told}
 use Rattle.why.proofs.fields.are_registers_known.Goals as goal
 

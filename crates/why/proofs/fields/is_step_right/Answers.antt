@@ -1,7 +1,6 @@
 -- `why::fields::is_step_right` meets its contract.
 -- Assumes nothing.
 use mathlib.Core.Path.{◌∙◌}
-use borrow.Author.Rules.{rules}
 use Rattle.why.proofs.Told.{step_told}
 use Rattle.why.proofs.fields.is_step_right.Goals as goal
 

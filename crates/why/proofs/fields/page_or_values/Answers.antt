@@ -1,6 +1,5 @@
 -- `why::fields::page_or_values` meets its contract.
 -- Assumes nothing.
-use borrow.Author.Rules.{rules}
 use Rattle.ground.specs.Choice.{pick}
 use Rattle.why.specs.Fields.{page_or_values}
 use Rattle.why.proofs.fields.page_or_values.Goals as goal

@@ -1,6 +1,5 @@
 -- `why::reasons::address_reason` meets its contract.
 -- Assumes nothing.
-use borrow.Author.Rules.{rules}
 use Rattle.why.specs.Reasons.{address_reason}
 use Rattle.why.proofs.reasons.address_reason.Goals as goal
 

@@ -1,6 +1,5 @@
 -- `why::reasons::branch_distance` meets its contract.
 -- Assumes nothing.
-use borrow.Author.Rules.{rules}
 use Rattle.why.specs.Reasons.{branch_distance}
 use Rattle.why.proofs.reasons.branch_distance.Goals as goal
 

@@ -1,6 +1,5 @@
 -- `why::reasons::branch_reason` meets its contract.
 -- Assumes nothing.
-use borrow.Author.Rules.{rules}
 use Rattle.why.specs.Reasons.{branch_reason}
 use Rattle.why.proofs.reasons.branch_reason.Goals as goal
 

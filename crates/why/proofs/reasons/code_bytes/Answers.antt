@@ -1,10 +1,8 @@
 -- `why::reasons::code_bytes` meets its contract.
 -- Assumes nothing.
 use native.Mathlib.Omega.{arith}
-use borrow.Author.Rules.{rules}
 use borrow.Author.Tests.{eq-eqb, ne_eqb}
 use Rattle.ground.specs.Choice.{pick}
-use Rattle.rows.specs.Sizes.{of_code}
 use Rattle.instruction.specs.Bytes.{code_size}
 use Rattle.why.specs.Reasons.{code_bytes}
 use Rattle.why.proofs.reasons.code_bytes.Goals as goal

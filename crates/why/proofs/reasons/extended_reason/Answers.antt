@@ -1,7 +1,6 @@
 -- `why::reasons::extended_reason` meets its contract.
 -- Assumes nothing.
 use mathlib.Core.Path.{sym, ◌∙◌}
-use borrow.Author.Rules.{rules}
 use Rattle.ground.proofs.Choices.{pick_false}
 use Rattle.ground.specs.Choice.{pick}
 use Rattle.why.specs.Reasons.{extended_reason}

@@ -1,6 +1,5 @@
 -- `why::reasons::is_elsewhere` meets its contract.
 -- Assumes nothing.
-use borrow.Author.Rules.{rules}
 use Rattle.why.proofs.reasons.is_elsewhere.Goals as goal
 
 pub returns-in-Known : goal.returns-in-Known

@@ -1,6 +1,5 @@
 -- `why::reasons::offset_number` meets its contract.
 -- Assumes nothing.
-use borrow.Author.Rules.{rules}
 use Rattle.why.specs.Reasons.{offset_number}
 use Rattle.why.proofs.reasons.offset_number.Goals as goal
 

@@ -1,6 +1,5 @@
 -- `why::reasons::offset_reason` meets its contract.
 -- Assumes nothing.
-use borrow.Author.Rules.{rules}
 use Rattle.why.specs.Reasons.{offset_reason}
 use Rattle.why.proofs.reasons.offset_reason.Goals as goal
 

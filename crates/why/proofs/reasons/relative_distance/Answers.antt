@@ -1,6 +1,5 @@
 -- `why::reasons::relative_distance` meets its contract.
 -- Assumes nothing.
-use borrow.Author.Rules.{rules}
 use Rattle.why.specs.Reasons.{relative_distance}
 use Rattle.why.proofs.reasons.relative_distance.Goals as goal
 

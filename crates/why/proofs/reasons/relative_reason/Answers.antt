@@ -1,6 +1,5 @@
 -- `why::reasons::relative_reason` meets its contract.
 -- Assumes nothing.
-use borrow.Author.Rules.{rules}
 use Rattle.why.specs.Reasons.{relative_reason}
 use Rattle.why.proofs.reasons.relative_reason.Goals as goal
 

@@ -18,9 +18,8 @@ loop-i-init c = (refl, refl, omega arith, omega arith, refl, omega arith)
 pub loop-i-preserved : goal.loop-i-preserved
 loop-i-preserved c =
     let w = c.byte-pen.ensures in
-    let at_loop = c in
-    let l = at_loop.loop-i in
-    let bs = at_loop.args.bytes.now in
+    let l = c.loop-i in
+    let bs = c.args.bytes.now in
     let next = drop_next bs l.i (omega arith) in (
       rest (hexes (drop (l.i + 1) bs)) w.digits
           ∙ ap (λ (xs : List ℕ). put l.out l.pen.at (hexes xs)) (sym next)

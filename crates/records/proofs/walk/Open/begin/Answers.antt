@@ -19,17 +19,15 @@ counted c = pending_length (held c) c.requires.0 (omega arith)
 
 pub returns-then-address-self : goal.returns-then-address-self
 returns-then-address-self c =
-    let start = c in
-    let a = start.args in
+    let a = c.args in
     let s = held (goal.at.returns-then-address-self c).Start in
     let next : a.address ≡ s.start + length (pending s) = omega (arith, counted (goal.at.returns-then-address-self c).Start) in
     goes_stay a.out.now s s a.address (λ es. From a.address ∷ es)
-    (λ es. sym (ahead_joins s.start (pending s) a.address es next)) refl start.requires.1 start.requires.0 (omega arith)
+    (λ es. sym (ahead_joins s.start (pending s) a.address es next)) refl c.requires.1 c.requires.0 (omega arith)
 
 pub returns-else-address-self : goal.returns-else-address-self
 returns-else-address-self c =
-    let start = c in
-    let a = start.args in
+    let a = c.args in
     let s = held (goal.at.returns-else-address-self c).Start in
     goes_restart s (λ es. From a.address ∷ es) c.restart.ensures refl
     (λ es. ahead_starts s.start (pending s) a.address es (λ h. c.if-address-self.false (omega (arith, h, counted (goal.at.returns-else-address-self c).Start))))

@@ -50,17 +50,14 @@ grows c h es =
 
 pub returns-then-n-eq32 : goal.returns-then-n-eq32
 returns-then-n-eq32 c =
-    let closed = c in
-    let full : closed.args.self.n + 1 ≡ 32 = omega arith in
-    let start = closed in
-    let a = start.args in
+    let full : c.args.self.n + 1 ≡ 32 = omega arith in
+    let a = c.args in
     let s = held (goal.at.returns-then-n-eq32 c).Start in
-    let next : s.start + 32 ≡ s.start + s.n + 1 = omega arith in record { goes = rw next at (goes_restart s (λ es. Byte a.b ∷ es) closed.restart.ensures refl (closes (goal.at.returns-then-n-eq32 c).Start full)); at_bound = omega (arith, closed.restart.ensures.wrote.next, closing_short s.start (pending (grown (goal.at.returns-then-n-eq32 c).Start)) (omega (arith, one_more (goal.at.returns-then-n-eq32 c).Start))) }
+    let next : s.start + 32 ≡ s.start + s.n + 1 = omega arith in record { goes = rw next at (goes_restart s (λ es. Byte a.b ∷ es) c.restart.ensures refl (closes (goal.at.returns-then-n-eq32 c).Start full)); at_bound = omega (arith, c.restart.ensures.wrote.next, closing_short s.start (pending (grown (goal.at.returns-then-n-eq32 c).Start)) (omega (arith, one_more (goal.at.returns-then-n-eq32 c).Start))) }
 
 pub returns-else-n-eq32 : goal.returns-else-n-eq32
 returns-else-n-eq32 c =
-    let start = c in
-    let a = start.args in
+    let a = c.args in
     let s = held (goal.at.returns-else-n-eq32 c).Start in record {
       goes = goes_stay
           a.out.now

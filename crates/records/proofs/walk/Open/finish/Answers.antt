@@ -23,6 +23,5 @@ put_line-requires c = omega (arith, near (goal.at.put_line-requires c).After-res
 
 pub returns : goal.returns
 returns c =
-    let last = c in
     let s = held (goal.at.returns c).Start in
-    rw (close_text s.start (pending s) []) (and_then last.restart-last.ensures.wrote c.put_line.ensures)
+    rw (close_text s.start (pending s) []) (and_then c.restart-last.ensures.wrote c.put_line.ensures)

@@ -17,8 +17,7 @@ counted c = pending_length (held c) c.requires.0 c.requires.1
 
 pub returns-then-n-eq0 : goal.returns-then-n-eq0
 returns-then-n-eq0 c =
-    let start = c in
-    restarted_none start.args.out.now (held (goal.at.returns-then-n-eq0 c).Start) start.args.start c.if-n-eq0.true start.requires.0
+    restarted_none c.args.out.now (held (goal.at.returns-then-n-eq0 c).Start) c.args.start c.if-n-eq0.true c.requires.0
 
 pub slice_bounds-put_line-end : goal.slice_bounds-put_line-end
 slice_bounds-put_line-end c = sym (counted (goal.at.slice_bounds-put_line-end c).Start)
@@ -28,12 +27,11 @@ put_line-next-requires c = omega (arith, counted (goal.at.put_line-next-requires
 
 pub returns : goal.returns
 returns c =
-    let start = c in
     let s = held (goal.at.returns c).Start in
     let some : 0 < length (pending s) = omega (arith, counted (goal.at.returns c).Start) in
     record {
       wrote = rw (closing_line s.start (pending s) some) c.put_line-next.ensures;
       begun = refl;
       none = refl;
-      whole = start.requires.0;
+      whole = c.requires.0;
     }

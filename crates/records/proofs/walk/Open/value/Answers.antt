@@ -28,10 +28,9 @@ byte-half-requires c =
 
 pub byte-requires : goal.byte-requires
 byte-requires c =
-    let half = c in
-    let a = half.args in
-    let w = half.byte-half.ensures in
-    omega (arith, w.goes.whole, w.goes.small, w.goes.place, w.at_bound, ap length (two a.number a.width half.if-width-eq16.true))
+    let a = c.args in
+    let w = c.byte-half.ensures in
+    omega (arith, w.goes.whole, w.goes.small, w.goes.place, w.at_bound, ap length (two a.number a.width c.if-width-eq16.true))
 
 pub byte-requires-else-width-eq16 : goal.byte-requires-else-width-eq16
 byte-requires-else-width-eq16 c =
@@ -40,17 +39,14 @@ byte-requires-else-width-eq16 c =
 
 pub returns-then-width-eq16 : goal.returns-then-width-eq16
 returns-then-width-eq16 c =
-    let whole = c in
-    let half = whole in
-    let a = half.args in
-    let v = half.byte-half.ensures.goes in
-    let h = half.byte-half.result in
+    let a = c.args in
+    let v = c.byte-half.ensures.goes in
+    let h = c.byte-half.result in
     let next : h.start + h.n + 1 ≡ a.self.start + a.self.n + 2 = omega (arith, v.place) in
-    rw (two a.number a.width half.if-width-eq16.true)
-    (rw next at (goes_then (λ es. Byte (high a.number) ∷ es) (λ es. Byte (low a.number) ∷ es) v whole.byte.ensures.goes))
+    rw (two a.number a.width c.if-width-eq16.true)
+    (rw next at (goes_then (λ es. Byte (high a.number) ∷ es) (λ es. Byte (low a.number) ∷ es) v c.byte.ensures.goes))
 
 pub returns-else-width-eq16 : goal.returns-else-width-eq16
 returns-else-width-eq16 c =
-    let whole = c in
-    let a = whole.args in
-    rw (one a.number a.width whole.if-width-eq16.false) whole.byte-else-width-eq16.ensures.goes
+    let a = c.args in
+    rw (one a.number a.width c.if-width-eq16.false) c.byte-else-width-eq16.ensures.goes
