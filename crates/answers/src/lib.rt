@@ -1,13 +1,13 @@
 // How an exported call answers: it returns its refusal, and what else it has to say goes into a lent slice of 16-bit cells.
 #![tactic(auto)]
 
-ghost use Rattle.std.specs.Prelude.{◌≡◌, ◌++◌, ◌+◌, ◌≤◌, length};
-ghost use Rattle.ground.specs.Stores.{put};
+ghost use Rattle.std.specs.Prelude.{◌≡◌, ◌++◌, length};
 ghost use Rattle.answers.specs.Said.{said, refusal_of, beside, cells_after};
 ghost use Rattle.answers.specs.Sizes.{size_cells, flag_cell};
 ghost use Rattle.answers.specs.Steps.{late_of};
 
-use ground::refusals::NO_ROOM;
+use ground::buffers::store_all;
+use ground::refusals::Refusal;
 
 // The refusal, if there is one; 9 where the slice is too short; else the cells stand at its front. A refusal leaves the slice as it was.
 pub fn hand(refusal: u8, cells: &[u16], answer: &mut [u16]) -> u8
@@ -18,9 +18,9 @@ pub fn hand(refusal: u8, cells: &[u16], answer: &mut [u16]) -> u8
         return refusal;
     }
     if answer.len() < cells.len() {
-        return NO_ROOM;
+        return Refusal::NoRoom as u8;
     }
-    store_cells(cells, answer, 0);
+    store_all(answer, 0, cells);
     0
 }
 
@@ -34,10 +34,10 @@ pub fn hand_both(refusal: u8, first: &[u16], second: &[u16], answer: &mut [u16])
     }
     let seam = first.len();
     if answer.len() < seam + second.len() {
-        return NO_ROOM;
+        return Refusal::NoRoom as u8;
     }
-    store_cells(first, answer, 0);
-    store_cells(second, answer, seam);
+    store_all(answer, 0, first);
+    store_all(answer, seam, second);
     0
 }
 
@@ -45,7 +45,11 @@ pub fn hand_both(refusal: u8, first: &[u16], second: &[u16], answer: &mut [u16])
 pub fn late(refusal: u8) -> u8
     ensures { result ≡ late_of refusal }
 {
-    if refusal != 0 { refusal } else { NO_ROOM }
+    if refusal != 0 {
+        refusal
+    } else {
+        Refusal::NoRoom as u8
+    }
 }
 
 // The refusal in the low 16 bits, and what is told beside it above them.
@@ -53,18 +57,6 @@ pub fn beside(refusal: u8, told: u8) -> u32
     ensures { result ≡ beside refusal told }
 {
     refusal as u32 + 65536 * (told as u32)
-}
-
-// Stores cells from a place on, where there is room for them.
-fn store_cells(cells: &[u16], answer: &mut [u16], at: usize)
-    requires { at + length cells.now ≤ length answer.old }
-    ensures { answer.new ≡ put answer.old at cells.now }
-{
-    let mut i: usize = 0;
-    while i < cells.len() {
-        answer[at + i] = cells[i];
-        i += 1;
-    }
 }
 
 // A size in four cells, the lowest first.

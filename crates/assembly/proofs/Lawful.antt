@@ -7,6 +7,7 @@ use Prim.Native.Nat.{ℕ, zero, suc, ◌+◌, ◌*◌, ◌/◌, ◌%◌, ◌≤�
 use native.Mathlib.Omega.{arith}
 use lib.ListN.{length, drop}
 use borrow.Author.Tests.{le-ltb}
+use Rattle.std.specs.Prelude.{Ok}
 use Rattle.ground.specs.Choice.{pick}
 use Rattle.ground.proofs.Tests.{neither_left, neither_right}
 use Rattle.expressions.specs.Numbers.{Cells, Short}
@@ -72,12 +73,12 @@ module _ (src : Source) (o : Outcome) (fine : ℕ) (all : (i : ℕ) → i < fine
 
 -- what is neither faulty nor too far is written wherever there is room
 module _ (os vs : List ℕ) (f : faulty os vs ≡ false) (t : too_far (records.objects_of os vs) ≡ false) where
-  text_accepted : (room : ℕ) → length (text_of os vs) ≤ room → written_of os vs room ≡ record { refusal = 0; length = length (text_of os vs) }
+  text_accepted : (room : ℕ) → length (text_of os vs) ≤ room → written_of os vs room ≡ Ok (length (text_of os vs))
   unfolding written_of pick
   text_accepted room h = rw (f, t, le-ltb room (length (text_of os vs)) h)
 
   text_written : (d : List ℕ) → length (text_of os vs) ≤ length d → buffer_of os vs d ≡ text_of os vs ++ drop (length (text_of os vs)) d
-  unfolding buffer_of pick
+  unfolding buffer_of
   text_written d h = rw (text_accepted (length d) h)
 
 module _ (src : Source) (ls : List ℕ) (nodes_fit : Cells Short src.nodes) (lent_fits : Cells Short ls) where
@@ -99,7 +100,7 @@ module _ (src : Source) (ls : List ℕ) (nodes_fit : Cells Short src.nodes) (len
   -- the writer refuses only for want of room
   pub never_refused :
       (room : ℕ) → length (settled_text src ls) ≤ room →
-      written_of (objects_of src ls) (values_of src ls) room ≡ record { refusal = 0; length = length (settled_text src ls) }
+      written_of (objects_of src ls) (values_of src ls) room ≡ Ok (length (settled_text src ls))
   unfolding settled_text
   never_refused room h = text_accepted (objects_of src ls) (values_of src ls) lawful.0 lawful.1 room h
 

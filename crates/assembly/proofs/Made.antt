@@ -7,25 +7,26 @@ use mathlib.Core.List.{List, [], ◌∷◌, ◌++◌}
 use Prim.Native.Nat.{ℕ, zero, suc, ◌+◌, ◌%◌, ◌≤◌, ◌<◌}
 use native.Mathlib.Omega.{arith}
 use borrow.Author.Tests.{eq-eqb, ne_eqb}
+use Rattle.std.specs.Prelude.{Result, Ok}
+use Rattle.ground.specs.declared.refusals.Refusal.{Refusal}
 use Rattle.ground.specs.Choice.{pick}
 use Rattle.ground.proofs.Choices.{pick_true, pick_false}
 use Rattle.records.specs.Objects as records
 use Rattle.records.specs.Objects.{Object, With, Without}
 use Rattle.instruction.specs.declared.Record.{Record}
 use Rattle.instruction.specs.declared.Built.{Built}
-use Rattle.instruction.specs.Building.{fresh_of}
-use Rattle.instruction.specs.Building as building
+use Rattle.instruction.specs.Building.{fresh_of, told, bytes_told}
 use Rattle.decoder.specs.Origin.{origin}
 use Rattle.decoder.specs.Front.{front_of}
-use Rattle.meanings.specs.ReadBack.{read_as}
-use Rattle.meanings.proofs.Decodes.{own_fresh_decodes}
+use Rattle.meanings.specs.ReadBack.{read_told}
+use Rattle.meanings.proofs.Decodes.{own_told_decodes}
 use Rattle.statements.specs.declared.Statement.TheVariants.{Instruction}
 use Rattle.statements.specs.Listing.{none, statement_at, entry_at}
 use Rattle.statements.specs.Asking.{asked_of}
 use Rattle.statements.specs.Effects.{record_of, effect_at}
 use Rattle.statements.specs.Objects.{values_at}
 use Rattle.statements.proofs.Told.{instruction_fresh}
-use Rattle.statements.proofs.Small.{instruction_bytes}
+use Rattle.statements.proofs.Small.{accepted_bytes}
 use Rattle.passes.specs.Walks.{Source}
 use Rattle.passes.specs.Passes.{Outcome, passed_of, too_many, ended_of}
 use Rattle.assembly.specs.Objects.{kind_at, values_built, address_at, page_at, object_in, values_in, gather, objects_from, values_from, objects_of, values_of}
@@ -94,24 +95,25 @@ module _ (src : Source) (o : Outcome) (i node : ℕ) (s : Stands src o i) (is : 
   record_in =
       record_of (entry_at src.list i) (asked_of src.nodes o.table node (address_at src o i % 65536)) (page_at src o i)
 
-  abbrev pub built_in : Built
+  abbrev pub built_in : Result Built Refusal
   built_in = fresh_of record_in (address_at src o i % 65536)
 
-  pub built_accepted : built_in.refusal ≡ 0
+  pub built_accepted : told built_in ≡ 0
   unfolding effect_at
   built_accepted =
       let z = s.accepted in
       (instruction_fresh node (entry_at src.list i) src.items src.nodes o.table (address_at src o i % 65536) (page_at src o i) false
       (rw is at z)).accepted
 
-  pub built_bytes : bytes_in src o i ≡ building.bytes_in built_in
-  unfolding values_at
+  pub built_bytes : bytes_in src o i ≡ bytes_told built_in
+  unfolding values_at effect_at
   built_bytes =
+      let z = s.accepted in
       rw is
-      (instruction_bytes src.nodes o.table node (entry_at src.list i) src.items (address_at src o i % 65536) (page_at src o i))
+      (accepted_bytes src.nodes o.table node (entry_at src.list i) src.items (address_at src o i % 65536) (page_at src o i) false (rw is at z))
 
   -- decoding its bytes at its address and under the page there, whatever follows them, reads its length and its meaning
   pub instruction_decodes :
       (t : List ℕ) →
-      front_of (bytes_in src o i ++ t) (origin (address_at src o i % 65536) (page_at src o i)) ≡ read_as record_in.values (address_at src o i % 65536) built_in
-  instruction_decodes t = rw built_bytes (own_fresh_decodes record_in (address_at src o i % 65536) built_accepted t)
+      front_of (bytes_in src o i ++ t) (origin (address_at src o i % 65536) (page_at src o i)) ≡ Ok (read_told record_in.values (address_at src o i % 65536) built_in)
+  instruction_decodes t = rw built_bytes (own_told_decodes record_in (address_at src o i % 65536) built_accepted t)

@@ -5,7 +5,8 @@ use mathlib.Core.Bool.{false}
 use mathlib.Core.List.{List}
 use Prim.Native.Nat.{ℕ, zero, suc, ◌+◌, ◌%◌, ◌≤◌, ◌<◌}
 use native.Mathlib.Omega.{arith}
-use Rattle.ground.specs.Choice.{pick}
+use Rattle.std.specs.Prelude.{None}
+use Rattle.std.specs.Option.{unwrap_or}
 use Rattle.values.specs.declared.pages.Page.{Page}
 use Rattle.statements.specs.declared.Effect.{Effect}
 use Rattle.statements.specs.Turns.{turned}
@@ -33,9 +34,9 @@ module _ (src : Source) (o : Outcome) where
 
   -- a statement of the settled pass that is not refused: what it does is counted whole, and says where the next one stands
   pub record Stands (i : ℕ) : Type 0 where
-    pub accepted : (own i).refusal ≡ 0
+    pub accepted : (own i).refusal ≡ None
     pub near : address_at src o i + (own i).size ≤ 65536
-    pub at : address_at src o (i + 1) ≡ pick (own i).moves (own i).to (address_at src o i + (own i).size)
+    pub at : address_at src o (i + 1) ≡ unwrap_or (own i).to (address_at src o i + (own i).size)
     pub page : page_at src o (i + 1) ≡ turned (own i).turn (page_at src o i)
 
   module _ (still : (pass_of src o.table o.sizes).state.changed ≡ false) where

@@ -6,9 +6,7 @@ use mathlib.Core.List.{List, []}
 use mathlib.Core.Logic.{inl, inr, ⊎_elim}
 use Prim.Native.Nat.{ℕ, zero, suc, ◌+◌, ◌%◌, ◌≤◌, ◌<◌}
 use native.Mathlib.Omega.{arith}
-use lib.Dec.{eqb}
 use lib.ListN.{length, replicate}
-use Rattle.ground.proofs.Choices.{by_pick}
 use Rattle.records.specs.Objects.{objects_of}
 use Rattle.records.specs.Text.{events, recs, text_of}
 use Rattle.statements.specs.Objects.{count_in}
@@ -91,8 +89,7 @@ module _ (src : Source) (ls : List ℕ) where
   settled_fine : Rests src passed → passed.answer.fine ≡ (pass_of src passed.table passed.sizes).state.fine
   unfolding answer_of
   settled_fine r =
-      let s = (pass_of src passed.table passed.sizes).state in
-      ap (λ (e : Ended). e.fine) r.answers ∙ by_pick (λ (e : Ended). e.fine ≡ s.fine) (eqb s.refusal 0) refl refl
+      ap (λ (e : Ended). e.fine) r.answers
 
   -- the statements before the refused one stand
   pub passed_stand : (i : ℕ) → i < passed.answer.fine → Stands src passed i

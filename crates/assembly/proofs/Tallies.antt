@@ -29,12 +29,18 @@ grown_short : (t : Tally) (size : ℕ) → t.held < 32 → size ≤ 65536 → ((
 unfolding grown
 grown_short t size h s = (omega arith, omega arith)
 
+pub object_short :
+    (t : Tally) (address size : ℕ) → t.held < 32 → size ≤ 65536 →
+    ((grown size (started address t)).held < 32) × ((grown size (started address t)).length ≤ t.length + 200000)
+object_short t address size h s =
+    let b = started_short t h address in
+    let g = grown_short (started address t) size b.0 s in
+    (g.0, omega (arith, b.1, g.1))
+
 pub tallied_short :
     (kind address size : ℕ) (t : Tally) → t.held < 32 → size ≤ 65536 →
     ((tallied kind address size t).held < 32) × ((tallied kind address size t).length ≤ t.length + 200000)
 unfolding tallied
 tallied_short kind address size t h s =
-    let b = started_short t h address in
-    let g = grown_short (started address t) size b.0 s in
     by_pick (λ (x : Tally). (x.held < 32) × (x.length ≤ t.length + 200000)) (eqb kind 1)
-    (g.0, omega (arith, b.1, g.1)) (h, omega arith)
+    (object_short t address size h s) (h, omega arith)

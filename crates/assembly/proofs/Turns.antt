@@ -3,8 +3,7 @@
 use mathlib.Core.Path.{◌≡◌, refl, sym, ap, ◌∙◌}
 use mathlib.Core.Bool.{false}
 use mathlib.Core.List.{List, [], ◌∷◌, ◌++◌}
-use Prim.Native.Nat.{ℕ, zero, suc, ◌+◌, ◌-◌, ◌*◌, ◌%◌, ◌≤◌, ◌<◌}
-use native.Mathlib.Numerals.{sub-one}
+use Prim.Native.Nat.{ℕ, suc, ◌+◌, ◌-◌, ◌*◌, ◌%◌, ◌≤◌, ◌<◌}
 use native.Mathlib.Omega.{arith}
 use lib.ListN.{length, set, length-append}
 use Rattle.ground.specs.Stores.{put, Wrote}
@@ -91,19 +90,17 @@ module _ (src : Source) (ls : List ℕ) where
   next i p = next_place (done_at src ls i p) p
 
   rows_turn :
-      (f : ℕ → ℕ → Page → List ℕ) (left i : ℕ) (p q : Place) → 0 < left → q ≡ next i p →
-      rows_on src ls f left i p ≡ f i p.at p.page ++ rows_on src ls f (left - 1) (i + 1) q
+      (f : ℕ → ℕ → Page → List ℕ) (left rest i : ℕ) (p q : Place) → left ≡ suc rest → q ≡ next i p →
+      rows_on src ls f left i p ≡ f i p.at p.page ++ rows_on src ls f rest (i + 1) q
   unfolding rows_on
-  rows_turn f zero i p q h e = absurd (omega arith)
-  rows_turn f (suc left) i p q h e = rw (sub-one, e)
+  rows_turn f left rest i p q h e = rw (h, e)
 
   tally_turn :
-      (left i : ℕ) (p q : Place) (t u : Tally) → 0 < left → q ≡ next i p →
+      (left rest i : ℕ) (p q : Place) (t u : Tally) → left ≡ suc rest → q ≡ next i p →
       u ≡ tallied (kind_at src.list i) (p.at % 65536) (done_at src ls i p).size t →
-      tally_on src ls (left - 1) (i + 1) q u ≡ tally_on src ls left i p t
+      tally_on src ls rest (i + 1) q u ≡ tally_on src ls left i p t
   unfolding tally_on
-  tally_turn zero i p q t u h e f = absurd (omega arith)
-  tally_turn (suc left) i p q t u h e f = rw (sub-one, e, f)
+  tally_turn left rest i p q t u h e f = rw (h, e, f)
 
   module _ (left : ℕ) (z : left ≡ 0) (i : ℕ) (p : Place) where
     none_rows : (f : ℕ → ℕ → Page → List ℕ) → rows_on src ls f left i p ≡ []
@@ -114,64 +111,63 @@ module _ (src : Source) (ls : List ℕ) where
     unfolding tally_on
     none_tally t = rw z
 
-  -- before statement i of n, where some are left
-  pub record Gone (n : ℕ) (os₀ vs₀ os vs : List ℕ) (s : Going) (i left : ℕ) : Type 0 where
-    pub count : i + left ≡ n
+  -- before statement i of n
+  pub record Gone (n : ℕ) (os₀ vs₀ os vs : List ℕ) (s : Going) (i : ℕ) : Type 0 where
     pub near : s.place.at ≤ 65536
     pub held : s.tally.held < 32
     pub short : s.tally.length ≤ 200000 * i
     pub few : s.objects ≤ 3 * i
     pub some : s.values ≤ 131072 * i
-    pub objects : Left os s.objects (objects_on src ls left i s.place) os₀ (objects_on src ls n 0 first_place)
-    pub values : Left vs s.values (values_on src ls left i s.place) vs₀ (values_on src ls n 0 first_place)
-    pub tally : tally_on src ls left i s.place s.tally ≡ tally_on src ls n 0 first_place no_tally
+    pub objects : Left os s.objects (objects_on src ls (n - i) i s.place) os₀ (objects_on src ls n 0 first_place)
+    pub values : Left vs s.values (values_on src ls (n - i) i s.place) vs₀ (values_on src ls n 0 first_place)
+    pub tally : tally_on src ls (n - i) i s.place s.tally ≡ tally_on src ls n 0 first_place no_tally
 
   module _ (n : ℕ) (os₀ vs₀ : List ℕ) where
-    pub gone_first : Gone n os₀ vs₀ os₀ vs₀ (record { place = first_place; objects = 0; values = 0; tally = no_tally }) 0 n
-    gone_first = record {
-      count = omega arith;
-      near = omega arith;
-      held = omega arith;
-      short = omega arith;
-      few = omega arith;
-      some = omega arith;
-      objects = record { table = refl; place = omega arith; size = refl };
-      values = record { table = refl; place = omega arith; size = refl };
-      tally = refl;
-    }
+    pub gone_first : Gone n os₀ vs₀ os₀ vs₀ (record { place = first_place; objects = 0; values = 0; tally = no_tally }) 0
+    gone_first =
+        let all : n - 0 ≡ n = omega arith in record {
+          near = omega arith;
+          held = omega arith;
+          short = omega arith;
+          few = omega arith;
+          some = omega arith;
+          objects = record { table = rw all; place = rw all (omega arith); size = refl };
+          values = record { table = rw all; place = rw all (omega arith); size = refl };
+          tally = rw all;
+        }
 
-    module _ (os vs : List ℕ) (s : Going) (i left : ℕ) (g : Gone n os₀ vs₀ os vs s i left) where
-      pub gone_ready : n ≤ 1024 → 0 < left → Ready s
+    module _ (os vs : List ℕ) (s : Going) (i : ℕ) (g : Gone n os₀ vs₀ os vs s i) where
+      pub gone_ready : n ≤ 1024 → i < n → Ready s
       gone_ready h l = record {
         near = g.near;
         held = g.held;
-        short = omega (arith, g.short, g.count);
-        objects = omega (arith, g.few, g.count);
-        values = omega (arith, g.some, g.count);
+        short = omega (arith, g.short);
+        objects = omega (arith, g.few);
+        values = omega (arith, g.some);
       }
 
       pub gone_more :
-          (os' vs' : List ℕ) (r : Going) → 0 < left → Stepped src ls i s os vs r os' vs' → Gone n os₀ vs₀ os' vs' r (i + 1) (left - 1)
-      gone_more os' vs' r h w = record {
-        count = omega (arith, g.count);
-        near = w.near;
-        held = w.held;
-        short = omega (arith, g.short, w.short);
-        few = omega (arith, g.few, w.few);
-        some = omega (arith, g.some, w.some);
-        objects = left_more _ _ (rows_turn _ left i s.place r.place h w.place) w.objects g.objects;
-        values = left_more _ _ (rows_turn _ left i s.place r.place h w.place) w.values g.values;
-        tally = tally_turn left i s.place r.place s.tally r.tally h w.place w.tally ∙ g.tally;
-      }
+          (os' vs' : List ℕ) (r : Going) → i < n → Stepped src ls i s os vs r os' vs' → Gone n os₀ vs₀ os' vs' r (i + 1)
+      gone_more os' vs' r h w =
+          let more : n - i ≡ suc (n - (i + 1)) = omega arith in record {
+            near = w.near;
+            held = w.held;
+            short = omega (arith, g.short, w.short);
+            few = omega (arith, g.few, w.few);
+            some = omega (arith, g.some, w.some);
+            objects = left_more _ _ (rows_turn _ (n - i) (n - (i + 1)) i s.place r.place more w.place) w.objects g.objects;
+            values = left_more _ _ (rows_turn _ (n - i) (n - (i + 1)) i s.place r.place more w.place) w.values g.values;
+            tally = tally_turn (n - i) (n - (i + 1)) i s.place r.place s.tally r.tally more w.place w.tally ∙ g.tally;
+          }
 
       pub gone_end :
-          (r : Extent) → left ≤ 0 → r ≡ record { objects = s.objects; values = s.values; length = end_of s.tally } →
+          (r : Extent) → i ≡ n → r ≡ record { objects = s.objects; values = s.values; length = end_of s.tally } →
           (r ≡ extent_of src ls n)
           × ((os ≡ put os₀ 0 (objects_on src ls n 0 first_place))
           × (vs ≡ put vs₀ 0 (values_on src ls n 0 first_place)))
       unfolding extent_of
       gone_end r h e =
-          let z : left ≡ 0 = omega arith in
-          let o = left_end (none_rows left z i s.place _) g.objects in
-          let v = left_end (none_rows left z i s.place _) g.values in
-          (rw (← o.0, ← v.0, ← g.tally, none_tally left z i s.place s.tally) e, (o.1, v.1))
+          let z : n - i ≡ 0 = omega arith in
+          let o = left_end (none_rows (n - i) z i s.place _) g.objects in
+          let v = left_end (none_rows (n - i) z i s.place _) g.values in
+          (rw (← o.0, ← v.0, ← g.tally, none_tally (n - i) z i s.place s.tally) e, (o.1, v.1))

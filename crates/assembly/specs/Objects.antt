@@ -1,6 +1,7 @@
 -- The objects of the settled pass, in the rows that the record writer takes (docs/ROWS.md). 01, "Passes": a settled pass's "bytes, or its first refusal, are
 -- the answer".
 use Rattle.std.specs.Prelude.{ℕ, zero, suc, ◌+◌, ◌%◌, false, List, [], ◌∷◌, ◌++◌, eqb}
+use Rattle.std.specs.Option.{unwrap_or}
 use Rattle.ground.specs.Choice.{pick}
 use Rattle.values.specs.declared.pages.Page.{Page}
 use Rattle.statements.specs.declared.Effect.{Effect}
@@ -25,7 +26,7 @@ values_built src ls i at page = values_at src.list src.items src.nodes ls i (at 
 
 -- where the object stands of a statement that does this at a location: an ORG's where the ORG moves to, any other at the location
 unfoldable pub stands_at : Effect → ℕ → ℕ
-stands_at e here = pick e.moves e.to here
+stands_at e here = unwrap_or e.to here
 
 -- its object; at 65536 only what has no length can stand, and its address is 0 like the location there
 unfoldable pub object_built : Source → List ℕ → ℕ → ℕ → Page → List ℕ

@@ -1,6 +1,10 @@
 -- What the code hands from part to part; only private contracts cite it.
-use Rattle.std.specs.Prelude.{◌≡◌, ℕ, zero, suc, ◌+◌, ◌*◌, ◌/◌, ◌%◌, ◌≤◌, ◌<◌, false, List, [], ◌++◌, eqb, length}
+use Rattle.std.specs.Prelude.{◌≡◌, ℕ, zero, suc, ◌+◌, ◌*◌, ◌/◌, ◌%◌, ◌≤◌, ◌<◌, false, List, [], ◌++◌, eqb, ltb, length, Result, Ok, Err}
+use Rattle.std.specs.Option.{unwrap_or}
+use Rattle.std.specs.Result.{result_and}
 use Rattle.ground.specs.Choice.{pick}
+use Rattle.ground.specs.declared.refusals.Refusal.{Refusal}
+use Rattle.ground.specs.declared.refusals.Refusal.TheVariants.{NoRoom}
 use Rattle.ground.specs.Stores.{Wrote}
 use Rattle.values.specs.declared.pages.Page.{Page}
 use Rattle.values.specs.declared.pages.Page.TheVariants.{Known}
@@ -10,7 +14,7 @@ use Rattle.statements.specs.Effects.{effect_at, counted_of}
 use Rattle.passes.specs.Walks.{Source}
 use Rattle.passes.specs.Passes.{ended_of}
 use Rattle.assembly.specs.Objects.{kind_at, values_built, object_built, objects_of, values_of}
-use Rattle.assembly.specs.Answers.{refusal_of}
+use Rattle.assembly.specs.Answers.{accepted_of}
 use Rattle.assembly.specs.Text.{settled_text}
 use Rattle.assembly.specs.declared.Plan.{Plan}
 use Rattle.assembly.specs.declared.output.Place.{Place}
@@ -24,7 +28,7 @@ done_at src ls i p =
     counted_of p.at (effect_at src.list src.items src.nodes ls i (p.at % 65536) p.page false)
 
 unfoldable pub next_place : Effect → Place → Place
-next_place e p = record { at = pick e.moves e.to (p.at + e.size); page = turned e.turn p.page }
+next_place e p = record { at = unwrap_or e.to (p.at + e.size); page = turned e.turn p.page }
 
 abbrev pub first_place : Place
 first_place = record { at = 0; page = Known 0 }
@@ -101,12 +105,22 @@ pub record Stepped (src : Source) (ls : List ℕ) (i : ℕ) (s : Going) (os vs :
   pub some : r.values ≤ s.values + 131072
 
 -- ---- what is known before anything is stored
-unfoldable pub plan_of : Source → List ℕ → (objects values : ℕ) → Plan
-plan_of src ls objects values = record {
-  refusal = refusal_of src ls objects values;
-  passes = (ended_of src ls).passes;
-  fine = (ended_of src ls).fine;
+-- numbers of objects and of values, and characters of text
+unfoldable pub extent_in : Source → List ℕ → Extent
+extent_in src ls = record {
   objects = length (objects_of src ls);
   values = length (values_of src ls);
   length = length (settled_text src ls);
 }
+
+unfoldable pub plan_of : Source → List ℕ → (objects values : ℕ) → Plan
+plan_of src ls objects values = record {
+  passes = (ended_of src ls).passes;
+  fine = (ended_of src ls).fine;
+  extent = result_and (accepted_of src ls objects values) (Ok (extent_in src ls));
+}
+
+-- a text of that length has room
+unfoldable pub roomy : ℕ → Result Extent Refusal → Result Extent Refusal
+roomy room (Ok extent) = pick (ltb room extent.length) (Err NoRoom) (Ok extent)
+roomy room (Err why) = Err why

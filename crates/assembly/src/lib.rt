@@ -4,71 +4,50 @@
 mod output;
 mod tally;
 
-ghost use Rattle.std.specs.Prelude.{◌≡◌, ◌≤◌, ◌<◌, length, take};
+ghost use Rattle.std.specs.Prelude.{◌≡◌, ◌≤◌, ◌<◌, length, take, is_ok};
 ghost use Rattle.ground.specs.Stores.{put};
 ghost use Rattle.records.specs.Written.{buffer_of};
 ghost use Rattle.passes.specs.Labels.{laid_over};
 ghost use Rattle.passes.specs.Walks.{source};
 ghost use Rattle.passes.specs.Passes.{worked_table};
 ghost use Rattle.assembly.specs.Objects.{objects_of, values_of};
-ghost use Rattle.assembly.specs.Answers.{refusal_of, refused, assembled_of, stored, labelled};
-ghost use Rattle.assembly.specs.Text.{settled_text, hex_refusal, unwritten, hexed_of};
-ghost use Rattle.assembly.specs.Steps.{first_place, objects_on, values_on, plan_of};
+ghost use Rattle.assembly.specs.Answers.{accepted_of, assembled_of, stored, labelled};
+ghost use Rattle.assembly.specs.Text.{settled_text, hex_length, hexed_of};
+ghost use Rattle.assembly.specs.Steps.{first_place, objects_on, values_on, plan_of, roomy};
 
-use ground::refusals::NO_ROOM;
-use output::emit;
+use ground::refusals::Refusal;
+use output::{Extent, emit};
 use passes::labels::{labels_fit, store_labels};
 use passes::settle_in;
 use records::write_text;
 
-// A refusal, 0 for none; the passes made; and how many rows of objects and of values were stored.
+// How many rows of objects and of values were stored.
 #[derive(Clone, Copy)]
-pub struct Assembled {
-    pub refusal: u8,
-    pub passes: u8,
+pub struct Stored {
     pub objects: usize,
     pub values: usize,
 }
 
-// A refusal, 0 for none; the passes made; and how long the text is.
+// The passes made, beside a refusal too; and what was stored.
+#[derive(Clone, Copy)]
+pub struct Assembled {
+    pub passes: u8,
+    pub stored: Result<Stored, Refusal>,
+}
+
+// The passes made, beside a refusal too; and how long the text is.
 #[derive(Clone, Copy)]
 pub struct Hexed {
-    pub refusal: u8,
     pub passes: u8,
-    pub length: usize,
+    pub length: Result<usize, Refusal>,
 }
 
-// What is known before anything is stored: the refusal, the passes made, how many statements stand before the refused one, and what these take: numbers
-// of objects and of values, and characters of text.
+// What is known before anything is stored: the passes made, how many statements stand before the refused one, and what these take, or the refusal.
 #[derive(Clone, Copy)]
 struct Plan {
-    refusal: u8,
     passes: u8,
     fine: usize,
-    objects: usize,
-    values: usize,
-    length: usize,
-}
-
-fn refused(refusal: u8, passes: u8) -> Assembled
-    ensures { result ≡ refused refusal passes }
-{
-    Assembled {
-        refusal,
-        passes,
-        objects: 0,
-        values: 0,
-    }
-}
-
-fn unwritten(refusal: u8, passes: u8) -> Hexed
-    ensures { result ≡ unwritten refusal passes }
-{
-    Hexed {
-        refusal,
-        passes,
-        length: 0,
-    }
+    extent: Result<Extent, Refusal>,
 }
 
 // Settles the statements, and measures what those before the refused one take. A statement that does not fit stands before the refused one, so that
@@ -94,12 +73,13 @@ fn prepare(
     let fits = (extent.objects <= objects)
         & ((extent.values <= values) & labels_fit(list, fine, labels.len()));
     Plan {
-        refusal: if fits { ended.refusal } else { NO_ROOM },
         passes: ended.passes,
         fine,
-        objects: extent.objects,
-        values: extent.values,
-        length: extent.length,
+        extent: if fits {
+            ended.end.and(Ok(extent))
+        } else {
+            Err(Refusal::NoRoom)
+        },
     }
 }
 
@@ -133,9 +113,9 @@ pub fn assemble(
     values: &mut [u16],
 ) -> Assembled
     ensures answer { result ≡ assembled_of (source list.now items.now nodes.now) labels.old (length objects.old) (length values.old) }
-    ensures labels { labels.new ≡ labelled (refusal_of (source list.now items.now nodes.now) labels.old (length objects.old) (length values.old)) (source list.now items.now nodes.now) labels.old }
-    ensures objects { objects.new ≡ stored (refusal_of (source list.now items.now nodes.now) labels.old (length objects.old) (length values.old)) (objects_of (source list.now items.now nodes.now) labels.old) objects.old }
-    ensures values { values.new ≡ stored (refusal_of (source list.now items.now nodes.now) labels.old (length objects.old) (length values.old)) (values_of (source list.now items.now nodes.now) labels.old) values.old }
+    ensures labels { labels.new ≡ labelled (is_ok (accepted_of (source list.now items.now nodes.now) labels.old (length objects.old) (length values.old))) (source list.now items.now nodes.now) labels.old }
+    ensures objects { objects.new ≡ stored (is_ok (accepted_of (source list.now items.now nodes.now) labels.old (length objects.old) (length values.old))) (objects_of (source list.now items.now nodes.now) labels.old) objects.old }
+    ensures values { values.new ≡ stored (is_ok (accepted_of (source list.now items.now nodes.now) labels.old (length objects.old) (length values.old))) (values_of (source list.now items.now nodes.now) labels.old) values.old }
 {
     let mut table = [0u16; 1536];
     let plan = prepare(
@@ -147,17 +127,23 @@ pub fn assemble(
         values.len(),
         &mut table,
     );
-    if plan.refusal != 0 {
-        return refused(plan.refusal, plan.passes);
-    }
-    store_all(
-        list, items, nodes, &table, plan.fine, labels, objects, values,
-    );
-    Assembled {
-        refusal: 0,
-        passes: plan.passes,
-        objects: plan.objects / 3,
-        values: plan.values / 2,
+    match plan.extent {
+        Err(why) => Assembled {
+            passes: plan.passes,
+            stored: Err(why),
+        },
+        Ok(extent) => {
+            store_all(
+                list, items, nodes, &table, plan.fine, labels, objects, values,
+            );
+            Assembled {
+                passes: plan.passes,
+                stored: Ok(Stored {
+                    objects: extent.objects / 3,
+                    values: extent.values / 2,
+                }),
+            }
+        }
     }
 }
 
@@ -173,10 +159,10 @@ pub fn hex(
     out: &mut [u8],
 ) -> Hexed
     ensures answer { result ≡ hexed_of (source list.now items.now nodes.now) labels.old (length objects.old) (length values.old) (length out.old) }
-    ensures labels { labels.new ≡ labelled (hex_refusal (source list.now items.now nodes.now) labels.old (length objects.old) (length values.old) (length out.old)) (source list.now items.now nodes.now) labels.old }
-    ensures objects { objects.new ≡ stored (hex_refusal (source list.now items.now nodes.now) labels.old (length objects.old) (length values.old) (length out.old)) (objects_of (source list.now items.now nodes.now) labels.old) objects.old }
-    ensures values { values.new ≡ stored (hex_refusal (source list.now items.now nodes.now) labels.old (length objects.old) (length values.old) (length out.old)) (values_of (source list.now items.now nodes.now) labels.old) values.old }
-    ensures text { out.new ≡ stored (hex_refusal (source list.now items.now nodes.now) labels.old (length objects.old) (length values.old) (length out.old)) (settled_text (source list.now items.now nodes.now) labels.old) out.old }
+    ensures labels { labels.new ≡ labelled (is_ok (hex_length (source list.now items.now nodes.now) labels.old (length objects.old) (length values.old) (length out.old))) (source list.now items.now nodes.now) labels.old }
+    ensures objects { objects.new ≡ stored (is_ok (hex_length (source list.now items.now nodes.now) labels.old (length objects.old) (length values.old) (length out.old))) (objects_of (source list.now items.now nodes.now) labels.old) objects.old }
+    ensures values { values.new ≡ stored (is_ok (hex_length (source list.now items.now nodes.now) labels.old (length objects.old) (length values.old) (length out.old))) (values_of (source list.now items.now nodes.now) labels.old) values.old }
+    ensures text { out.new ≡ stored (is_ok (hex_length (source list.now items.now nodes.now) labels.old (length objects.old) (length values.old) (length out.old))) (settled_text (source list.now items.now nodes.now) labels.old) out.old }
 {
     let mut table = [0u16; 1536];
     let plan = prepare(
@@ -188,21 +174,34 @@ pub fn hex(
         values.len(),
         &mut table,
     );
-    if plan.refusal != 0 {
-        return unwritten(plan.refusal, plan.passes);
+    match roomy(plan.extent, out.len()) {
+        Err(why) => Hexed {
+            passes: plan.passes,
+            length: Err(why),
+        },
+        Ok(extent) => {
+            store_all(
+                list, items, nodes, &table, plan.fine, labels, objects, values,
+            );
+            write_stored(objects, values, extent.objects, extent.values, out);
+            Hexed {
+                passes: plan.passes,
+                length: Ok(extent.length),
+            }
+        }
     }
-    if out.len() < plan.length {
-        return unwritten(NO_ROOM, plan.passes);
+}
+
+// Where a text has room: 9 where it has not.
+#[tactic(auto, unfolding(crate::specs::Steps::roomy, ground::specs::Choice::pick))]
+fn roomy(planned: Result<Extent, Refusal>, room: usize) -> Result<Extent, Refusal>
+    ensures { result ≡ roomy room planned }
+{
+    let extent = planned?;
+    if room < extent.length {
+        return Err(Refusal::NoRoom);
     }
-    store_all(
-        list, items, nodes, &table, plan.fine, labels, objects, values,
-    );
-    write_stored(objects, values, plan.objects, plan.values, out);
-    Hexed {
-        refusal: 0,
-        passes: plan.passes,
-        length: plan.length,
-    }
+    Ok(extent)
 }
 
 // The text of the rows at the front of both tables.
@@ -210,5 +209,5 @@ fn write_stored(objects: &[u16], values: &[u16], rows: usize, numbers: usize, ou
     requires { (rows ≤ length objects.now) × (numbers ≤ length values.now) }
     ensures { out.new ≡ buffer_of (take rows objects.now) (take numbers values.now) out.old }
 {
-    write_text(&objects[..rows], &values[..numbers], out);
+    let _ = write_text(&objects[..rows], &values[..numbers], out);
 }

@@ -6,7 +6,7 @@ ghost use Rattle.assembly.specs.Objects.{kind_at, object_row, stands_at};
 ghost use Rattle.assembly.specs.Steps.{done_at, next_place, first_place, objects_on, values_on, extent_of, Ready, Stepped};
 
 use crate::tally::Tally;
-use ground::buffers::store_cell;
+use ground::buffers::store;
 use statements::Effect;
 use statements::effects::{counted, effect};
 use statements::listing::{NONE, object_kind, statement_at};
@@ -21,6 +21,7 @@ pub(crate) struct Place {
 }
 
 impl Place {
+    #[tactic(auto, unfolding(crate::specs::Steps::next_place))]
     fn next(self, e: Effect) -> Place
         requires { self.at + e.size ≤ 65536 }
         ensures answer { result ≡ next_place e self }
@@ -29,20 +30,16 @@ impl Place {
         let turn = e.turn;
         let before = self.page;
         let page = turn.turns(before);
-        if e.moves {
-            return Place {
-                at: e.to as u32,
-                page,
-            };
-        }
-        Place {
-            at: self.at + e.size,
-            page,
-        }
+        let at = match e.to {
+            Some(to) => to as u32,
+            None => self.at + e.size,
+        };
+        Place { at, page }
     }
 }
 
-// How far the walk is: where the next statement stands, the numbers stored of objects and of values, and the measure of their text.
+// How far the walk is: where the next statement stands, the numbers stored of objects and of values, and the measure of their text. The numbers stand
+// beside two tables that are lent, as the record writer takes them (docs/ROWS.md).
 #[derive(Clone, Copy)]
 pub(crate) struct Going {
     pub place: Place,
@@ -68,6 +65,7 @@ fn kind_at(list: &[u16], i: usize) -> u16
 }
 
 // An object's row, where there is one, and the place after it.
+#[tactic(auto, unfolding(crate::specs::Objects::object_row, ground::specs::Choice::pick))]
 fn store_object(objects: &mut [u16], at: usize, kind: u16, address: u16, count: u16) -> usize
     requires { at < 4294967296 }
     ensures row { Wrote objects.old at (object_row kind address count) result objects.new }
@@ -76,20 +74,18 @@ fn store_object(objects: &mut [u16], at: usize, kind: u16, address: u16, count: 
     if kind == NONE {
         return at;
     }
-    store_cell(objects, at, kind);
-    store_cell(objects, at + 1, address);
-    store_cell(objects, at + 2, count);
+    store(objects, at, kind);
+    store(objects, at + 1, address);
+    store(objects, at + 2, count);
     at + 3
 }
 
 // Where the object of a statement at a location stands: an ORG's where it moves to.
+#[tactic(auto, unfolding(crate::specs::Objects::stands_at))]
 fn stands_at(e: Effect, here: u16) -> u16
     ensures { result ≡ stands_at e here }
 {
-    if e.moves {
-        return e.to;
-    }
-    here
+    e.to.unwrap_or(here)
 }
 
 // What a statement of a settled pass does. It is accepted, so its own label is not refused.
@@ -176,12 +172,8 @@ pub(crate) fn emit(
         values: 0,
         tally,
     };
-    let mut i: usize = 0;
-    let mut left = n;
-    while 0 < left {
+    for i in 0..n {
         s = step(list, items, nodes, labels, i, s, objects, values);
-        i += 1;
-        left -= 1;
     }
     let measured = s.tally;
     Extent {

@@ -20,6 +20,7 @@ pub(crate) struct Tally {
 
 impl Tally {
     // The characters once the present record is closed.
+    #[tactic(auto, unfolding(crate::specs::Steps::closed_length, ground::specs::Choice::pick))]
     fn closed(self) -> usize
         requires { (self.held < 32) × (self.length < 4294967296) }
         ensures { result ≡ closed_length self }
@@ -31,6 +32,7 @@ impl Tally {
     }
 
     // An object with data not at the next address starts a new record.
+    #[tactic(auto, unfolding(crate::specs::Steps::started, ground::specs::Choice::pick))]
     fn start(self, address: usize) -> Tally
         requires { (self.held < 32) × (self.length < 4294967296) }
         ensures { result ≡ started address self }
@@ -46,6 +48,7 @@ impl Tally {
     }
 
     // So many bytes more; a record is closed the moment it has 32.
+    #[tactic(auto, unfolding(crate::specs::Steps::grown))]
     fn grow(self, size: usize) -> Tally
         requires { (self.next ≤ 131072) × (self.held < 32) × (self.length < 8589934592) × (size ≤ 65536) }
         ensures { result ≡ grown size self }
@@ -58,7 +61,8 @@ impl Tally {
         }
     }
 
-    // An object at an address; only one with data is written.
+    // An object at an address; only one with data is written. Its kind is a number and no enum: the rows that are lent hold it (docs/ROWS.md).
+    #[tactic(auto, using(crate::proofs::Tallies::started_short, crate::proofs::Tallies::started_next), unfolding(crate::specs::Steps::tallied, ground::specs::Choice::pick))]
     pub(crate) fn object(self, kind: u16, address: usize, size: usize) -> Tally
         requires { (self.held < 32) × (self.length < 4294967296) × (address ≤ 65536) × (size ≤ 65536) }
         ensures answer { result ≡ tallied kind address size self }
@@ -71,6 +75,7 @@ impl Tally {
     }
 
     // The length of the whole text: the end record comes last.
+    #[tactic(auto, using(crate::proofs::Tallies::closed_short), unfolding(crate::specs::Steps::end_of))]
     pub(crate) fn end(self) -> usize
         requires { (self.held < 32) × (self.length < 4294967296) }
         ensures { result ≡ end_of self }

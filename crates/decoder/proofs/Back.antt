@@ -18,25 +18,26 @@ use Rattle.values.specs.Widths.{extended}
 use Rattle.values.specs.declared.pages.Page.{Page}
 use Rattle.values.specs.declared.pages.Page.TheVariants.{Unknown, Known}
 use Rattle.values.specs.Pages.{reaches}
-use Rattle.rows.specs.declared.Coded.TheVariants.{Code}
 use Rattle.rows.specs.Forms as forms
-use Rattle.rows.specs.Lookup.{merged_of, code_of}
+use Rattle.rows.specs.Lookup.{merged_of, coded, code_of}
 use Rattle.rows.specs.Sizes.{is_wide, is_long, number_at, number_size_of}
 use Rattle.rows.proofs.Laws.{decoded, pages, no_prefix}
+use Rattle.std.specs.Prelude.{Ok}
+use Rattle.std.proofs.lemmas.Result.{IfOk-at_ok}
+use Rattle.postbytes.specs.declared.Encoded.{Encoded}
 use Rattle.postbytes.specs.declared.Index.{Index}
 use Rattle.postbytes.specs.Writing.{written, encode_of, near_of, relative_of}
-use Rattle.postbytes.specs.Meanings.{meaning_of, set_of}
+use Rattle.postbytes.specs.Meanings.{meaning_of, set_of, Means}
 use Rattle.postbytes.specs.ListsWritten.{push_of, paired_of}
-use Rattle.postbytes.specs.ListsRead.{registers_of}
+use Rattle.postbytes.specs.ListsRead.{registers_of, pair_of}
 use Rattle.postbytes.proofs.Signs.{near_back}
-use Rattle.postbytes.proofs.Round.{read_back, read_back_relative}
+use Rattle.postbytes.proofs.Round.{Back as Reads_as, read_back, read_back_relative}
 use Rattle.postbytes.proofs.ListsRound as lists
 use Rattle.decoder.specs.declared.Origin.{Origin}
-use Rattle.decoder.specs.declared.Decoded.{Decoded}
 use Rattle.decoder.specs.declared.Kind.{Kind}
 use Rattle.decoder.specs.declared.Kind.TheVariants.{Inherent, Immediate, Memory, Branch, Push, Pair, Counter}
 use Rattle.decoder.specs.Origin.{shifted, outside, target_of, direct_of, unseen}
-use Rattle.decoder.specs.Meaning.{reading, answer, joined}
+use Rattle.decoder.specs.Meaning.{Answer, reading, answer, joined}
 use Rattle.decoder.specs.Operands.{rest_of, number_of, distance_of, numbered_of, resolved, is_pair, own_of, paired_as, operand_of}
 use Rattle.decoder.specs.Front.{coded_of, front_of, decode_of}
 use Rattle.decoder.proofs.Bytes.{numbered_back, indexed_back, push_back, pair_back}
@@ -58,33 +59,33 @@ code_length p c = go (eqb p 0x00)
     go false = refl
 
 -- the number after a code has the size that the sheet gives its row
-pub size_at : (o form p c : ℕ) → code_of o form ≡ Code p c → number_at form p c ≡ number_size_of o form
+pub size_at : (o form p c : ℕ) → code_of o form ≡ coded p c → number_at form p c ≡ number_size_of o form
 unfolding number_size_of
 size_at o form p c e = rw e
 
 module _ (o form c : ℕ) (from : Origin) (l : List ℕ) where
   -- the row's operation with the operand that is read in l
-  abbrev Named : ℕ → Decoded
+  abbrev Named : ℕ → Answer
   Named size = joined size (merged_of o) (operand_of (merged_of o) form (number_size_of o form) (rest_of l) (shifted from size))
 
-  coded_back : (p size : ℕ) → code_of o form ≡ Code p c → coded_of p c size (rest_of l) from ≡ Named size
+  coded_back : (p size : ℕ) → code_of o form ≡ coded p c → coded_of p c size (rest_of l) from ≡ Named size
   unfolding coded_of
   coded_back p size e = rw (decoded o form p c e, size_at o form p c e)
 
   abbrev Back : ℕ → Type 0
   Back p = front_of (code_bytes p c ++ l) from ≡ Named (code_size p)
 
-  pub front_code : (p : ℕ) → code_of o form ≡ Code p c → Back p
+  pub front_code : (p : ℕ) → code_of o form ≡ coded p c → Back p
   unfolding front_of pick
   front_code p e =
       ⊎_elim
-      (λ (z : p ≡ 0x00). subst Back (sym z) (plain (e ∙ ap (λ (k : ℕ). Code k c) z)))
+      (λ (z : p ≡ 0x00). subst Back (sym z) (plain (e ∙ ap (λ (k : ℕ). coded k c) z)))
       (⊎_elim
-      (λ (z : p ≡ 0x10). subst Back (sym z) (coded_back 0x10 2 (e ∙ ap (λ (k : ℕ). Code k c) z)))
-      (λ (z : p ≡ 0x11). subst Back (sym z) (coded_back 0x11 2 (e ∙ ap (λ (k : ℕ). Code k c) z))))
+      (λ (z : p ≡ 0x10). subst Back (sym z) (coded_back 0x10 2 (e ∙ ap (λ (k : ℕ). coded k c) z)))
+      (λ (z : p ≡ 0x11). subst Back (sym z) (coded_back 0x11 2 (e ∙ ap (λ (k : ℕ). coded k c) z))))
       (pages o form p c e)
     where
-      plain : code_of o form ≡ Code 0x00 c → Back 0x00
+      plain : code_of o form ≡ coded 0x00 c → Back 0x00
       plain d =
           let n = no_prefix o form c d in
           rw (ne_eqb c 0x10 n.0, ne_eqb c 0x11 n.1) (coded_back 0x00 1 d)
@@ -92,7 +93,7 @@ module _ (o form c : ℕ) (from : Origin) (l : List ℕ) where
 -- an accepted operand after its code
 pub instruction_back :
     (o form p c : ℕ) (from : Origin) (bytes t : List ℕ) (kind : Kind) →
-    code_of o form ≡ Code p c →
+    code_of o form ≡ coded p c →
     operand_of (merged_of o) form (number_size_of o form) (rest_of (bytes ++ t)) (shifted from (code_size p)) ≡ reading (length bytes) kind →
     front_of ((code_bytes p c ++ bytes) ++ t) from ≡ answer (length (code_bytes p c ++ bytes)) (merged_of o) kind
 unfolding joined pick
@@ -109,27 +110,27 @@ decode_room l from h = rw (le-ltb 65536 (from.address + length l) h)
 
 -- ---- how many bytes of number a row has
 module _ (o p c : ℕ) where
-  pub size_inherent : code_of o forms.inherent ≡ Code p c → number_size_of o forms.inherent ≡ 0
+  pub size_inherent : code_of o forms.inherent ≡ coded p c → number_size_of o forms.inherent ≡ 0
   unfolding number_at pick
   size_inherent e = sym (size_at o forms.inherent p c e)
 
-  pub size_direct : code_of o forms.direct ≡ Code p c → number_size_of o forms.direct ≡ 1
+  pub size_direct : code_of o forms.direct ≡ coded p c → number_size_of o forms.direct ≡ 1
   unfolding number_at pick
   size_direct e = sym (size_at o forms.direct p c e)
 
-  pub size_extended : code_of o forms.extended ≡ Code p c → number_size_of o forms.extended ≡ 2
+  pub size_extended : code_of o forms.extended ≡ coded p c → number_size_of o forms.extended ≡ 2
   unfolding number_at pick
   size_extended e = sym (size_at o forms.extended p c e)
 
   abbrev OneOrTwo : ℕ → Type 0
   OneOrTwo n = (1 ≤ n) × (n ≤ 2)
 
-  pub size_immediate : code_of o forms.immediate ≡ Code p c → OneOrTwo (number_size_of o forms.immediate)
+  pub size_immediate : code_of o forms.immediate ≡ coded p c → OneOrTwo (number_size_of o forms.immediate)
   unfolding number_at pick
   size_immediate e =
       subst OneOrTwo (size_at o forms.immediate p c e) (by_pick OneOrTwo (is_wide p c) (omega arith, omega arith) (omega arith, omega arith))
 
-  pub size_relative : code_of o forms.relative ≡ Code p c → OneOrTwo (number_size_of o forms.relative)
+  pub size_relative : code_of o forms.relative ≡ coded p c → OneOrTwo (number_size_of o forms.relative)
   unfolding number_at pick
   size_relative e =
       subst OneOrTwo (size_at o forms.relative p c e) (by_pick OneOrTwo (is_long p c) (omega arith, omega arith) (omega arith, omega arith))
@@ -214,12 +215,13 @@ module _ (q : ℕ) (after : Origin) (t : List ℕ) where
 
   -- ---- postbytes
   pub index_back :
-      (i : Index) (size : ℕ) →
-      (encode_of i).refusal ≡ 0 →
-      operand_of q forms.indexed size (rest_of (written (encode_of i) ++ t)) after
-      ≡ reading (encode_of i).length (resolved (meaning_of i) (shifted after (encode_of i).length))
+      (i : Index) (size : ℕ) (e : Encoded) →
+      encode_of i ≡ Ok e →
+      operand_of q forms.indexed size (rest_of (written e ++ t)) after ≡ reading e.length (resolved (meaning_of i) (shifted after e.length))
   unfolding operand_of pick
-  index_back i size z = indexed_back (written (encode_of i) ++ t) (encode_of i).length (meaning_of i) after (read_back i z t)
+  index_back i size e z =
+      let w : Means (written e ++ t) e.length (meaning_of i) = IfOk-at_ok (λ x. Reads_as x (meaning_of i)) z (read_back i) t in
+      indexed_back (written e ++ t) e.length (meaning_of i) after w
 
   pub counter_back :
       (target size : ℕ) (ind : Bool) →
@@ -232,28 +234,28 @@ module _ (q : ℕ) (after : Origin) (t : List ℕ) where
       let e = relative_of target after.address ind in
       let r = read_back_relative target after.address ind h b in
       let w = r.lands in
-      indexed_back (written e ++ t) e.length _ after (r.back r.accepted t)
+      indexed_back (written e ++ t) e.length _ after (r.back t)
       ∙ ap (λ (m : ℕ). reading e.length (Counter ind m)) (omega arith)
 
   -- ---- lists of registers
   pub push_list_back :
-      (own : ℕ) (registers : List ℕ) (count size : ℕ) →
+      (own : ℕ) (registers : List ℕ) (count size b : ℕ) →
       is_pair q ≡ false →
       own_of q ≡ own →
-      (push_of own registers count).refusal ≡ 0 →
-      operand_of q forms.register size (rest_of ((push_of own registers count).byte ∷ t)) after ≡ reading 1 (Push (set_of (take count registers)))
+      push_of own registers count ≡ Ok b →
+      operand_of q forms.register size (rest_of (b ∷ t)) after ≡ reading 1 (Push (set_of (take count registers)))
   unfolding operand_of pick
-  push_list_back own registers count size i e z =
-      push_back q (rest_of ((push_of own registers count).byte ∷ t)) (omega arith) i
-      ∙ ap (λ (m : ℕ). reading 1 (Push (registers_of m (push_of own registers count).byte))) e
-      ∙ ap (λ (m : ℕ). reading 1 (Push m)) (lists.push_back own registers count z)
+  push_list_back own registers count size b i e z =
+      push_back q (rest_of (b ∷ t)) (omega arith) i
+      ∙ ap (λ (m : ℕ). reading 1 (Push (registers_of m b))) e
+      ∙ ap (λ (m : ℕ). reading 1 (Push m)) (IfOk-at_ok (λ k. registers_of own k ≡ set_of (take count registers)) z (lists.push_back own registers count))
 
   pub pair_list_back :
-      (registers : List ℕ) (count size : ℕ) →
+      (registers : List ℕ) (count size b : ℕ) →
       is_pair q ≡ true →
-      (paired_of registers count).refusal ≡ 0 →
-      operand_of q forms.register size (rest_of ((paired_of registers count).byte ∷ t)) after ≡ reading 1 (Pair (get_or registers 0 0) (get_or registers 1 0))
+      paired_of registers count ≡ Ok b →
+      operand_of q forms.register size (rest_of (b ∷ t)) after ≡ reading 1 (Pair (get_or registers 0 0) (get_or registers 1 0))
   unfolding operand_of pick
-  pair_list_back registers count size i z =
-      pair_back q (rest_of ((paired_of registers count).byte ∷ t)) (omega arith) i
-      ∙ ap paired_as (lists.pair_back registers count z)
+  pair_list_back registers count size b i z =
+      pair_back q (rest_of (b ∷ t)) (omega arith) i
+      ∙ ap paired_as (IfOk-at_ok (λ k. pair_of k ≡ Ok (record { source = get_or registers 0 0; destination = get_or registers 1 0 })) z (lists.pair_back registers count))

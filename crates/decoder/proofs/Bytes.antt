@@ -10,25 +10,27 @@ use lib.Dec.{eqb, ltb}
 use lib.ListN.{length, get_or, take, length-append, get_or-append}
 use lib.Seq.{length-take-le, get_or-take}
 use borrow.Author.Tests.{lt-ltb, le-ltb, ne_eqb, eqb-false, ltb-false}
+use Rattle.std.specs.Prelude.{Result, Err, IfOk}
 use Rattle.ground.specs.Choice.{pick}
-use Rattle.ground.specs.Refusals.{cut_short}
+use Rattle.ground.specs.declared.refusals.Refusal.{Refusal}
+use Rattle.ground.specs.declared.refusals.Refusal.TheVariants.{CutShort}
 use Rattle.ground.specs.Words.{word}
 use Rattle.ground.proofs.Choices.{by_test, by_pick}
+use Rattle.std.specs.Prelude.{Result, Ok, Err}
+use Rattle.ground.specs.declared.refusals.Refusal.{Refusal}
 use Rattle.postbytes.specs.declared.Shape.{Shape}
-use Rattle.postbytes.specs.declared.Shape.TheVariants.{NoOffset, FiveBits, OneByte, TwoBytes, Accumulator, Step, CounterByte, CounterWord, Address, Undefined}
+use Rattle.postbytes.specs.declared.Shape.TheVariants.{NoOffset, FiveBits, OneByte, TwoBytes, Accumulator, Step, CounterByte, CounterWord, Address}
 use Rattle.postbytes.specs.declared.Addressing.{Addressing}
 use Rattle.postbytes.specs.declared.Pair.{Pair}
-use Rattle.postbytes.specs.declared.Pair.TheVariants as pair
-use Rattle.postbytes.specs.Reading.{is_defined, shape_of, extra_of, fill_of}
+use Rattle.postbytes.specs.Reading.{shape_of, extra_of, fill_of}
 use Rattle.postbytes.specs.Meanings.{Means}
 use Rattle.postbytes.specs.ListsRead.{registers_of, pair_of}
-use Rattle.postbytes.proofs.Told.{lacking_undefined}
 use Rattle.decoder.specs.declared.Origin.{Origin}
 use Rattle.decoder.specs.declared.operands.Rest.{Rest}
 use Rattle.decoder.specs.declared.operands.Reading.{Reading}
 use Rattle.decoder.specs.declared.Kind.TheVariants.{Push}
 use Rattle.decoder.specs.Origin.{shifted, unseen}
-use Rattle.decoder.specs.Meaning.{reading, unread}
+use Rattle.decoder.specs.Meaning.{reading}
 use Rattle.decoder.specs.Operands.{rest_of, number_of, numbered_of, numbered_at, resolved, indexed_as, indexed_at, is_pair, own_of, paired_as, registers_at, operand_of}
 use Rattle.decoder.proofs.Bounds.{extra_small}
 
@@ -55,7 +57,7 @@ module _ (form size : ℕ) (after : Origin) (seen : unseen form after ≡ false)
   unfolding numbered_at pick
   numbered_back r h = rw (seen, le-ltb r.left size h)
 
-  numbered_cut : (r : Rest) → r.left < size → numbered_at form size r after ≡ unread cut_short
+  numbered_cut : (r : Rest) → r.left < size → numbered_at form size r after ≡ Err CutShort
   unfolding numbered_at pick
   numbered_cut r h = rw (seen, lt-ltb r.left size h)
 
@@ -78,19 +80,22 @@ number_kept size l t h = go (eqb size 0) refl (eqb size 1) refl
         let y = eqb-false size 1 q in
         rw (kept_at size l t h 0 (omega arith), kept_at size l t h 1 (omega arith))
 
--- what is read without a refusal is read from its own bytes
-abbrev pub Owned : (List ℕ → Reading) → List ℕ → Type 0
-Owned read l = (read l).refusal ≡ 0 → Own (unread cut_short) read l (read l).size
+-- no operand is there
+abbrev pub short_operand : Result Reading Refusal
+short_operand = Err CutShort
 
--- the same, where the size is told
-abbrev Sized : (List ℕ → Reading) → List ℕ → Reading → Type 0
-Sized read l d = d.refusal ≡ 0 → Own (unread cut_short) read l d.size
+-- what is read is read from its own bytes
+abbrev Sized : (List ℕ → Result Reading Refusal) → List ℕ → Result Reading Refusal → Type 0
+Sized read l x = IfOk x (λ r. Own short_operand read l r.size)
+
+abbrev pub Owned : (List ℕ → Result Reading Refusal) → List ℕ → Type 0
+Owned read l = Sized read l (read l)
 
 module _ (form size : ℕ) (after : Origin) (l : List ℕ) where
-  abbrev numbered : List ℕ → Reading
+  abbrev numbered : List ℕ → Result Reading Refusal
   numbered m = numbered_at form size (rest_of m) after
 
-  own_number : unseen form after ≡ false → size ≤ length l → Own (unread cut_short) numbered l size
+  own_number : unseen form after ≡ false → size ≤ length l → Own short_operand numbered l size
   own_number seen h = record {
     within = h;
     cut = λ k b. numbered_cut form size after seen (rest_of (take k l)) (omega (arith, length-take-le k l (omega arith)));
@@ -103,9 +108,8 @@ module _ (form size : ℕ) (after : Origin) (l : List ℕ) where
   numbered_own : Owned numbered l
   unfolding numbered_at
   numbered_own =
-      by_test (Sized numbered l) (unseen form after) (λ _ z. absurd (omega arith))
-      (λ u. by_test (Sized numbered l) (ltb (length l) size) (λ _ z. absurd (omega arith))
-      (λ q _. own_number u (ltb-false (length l) size q)))
+      by_test (Sized numbered l) (unseen form after) (λ _. tt)
+      (λ u. by_test (Sized numbered l) (ltb (length l) size) (λ _. tt) (λ q. own_number u (ltb-false (length l) size q)))
 
 -- ---- a postbyte
 -- the operand's bytes, whatever follows them, are read as it
@@ -120,13 +124,13 @@ indexed_back l n m after w =
     rw (ne_eqb (length l) 0 (omega arith), w.defined, w.extra, le-ltb (length l) n h, w.reads)
 
 indexed_cut :
-    (r : Rest) (after : Origin) →
+    (r : Rest) (after : Origin) (s : Shape) →
     (r.left ≡ 0 → ⊥) →
-    is_defined (shape_of r.first) ≡ true →
-    r.left < 1 + extra_of (shape_of r.first) →
-    indexed_at r after ≡ unread cut_short
+    shape_of r.first ≡ Ok s →
+    r.left < 1 + extra_of s →
+    indexed_at r after ≡ Err CutShort
 unfolding indexed_at indexed_as pick
-indexed_cut r after z d h = rw (ne_eqb r.left 0 z, d, lt-ltb r.left (1 + extra_of (shape_of r.first)) h)
+indexed_cut r after s z d h = rw (ne_eqb r.left 0 z, d, lt-ltb r.left (1 + extra_of s) h)
 
 -- a filling looks at the bytes that its shape has, and at no more
 fill_kept :
@@ -140,7 +144,6 @@ fill_kept (Step r ind k) b c d e p q = refl
 fill_kept (CounterByte ind) b c d e p q = rw (p (omega arith))
 fill_kept (CounterWord ind) b c d e p q = rw (p (omega arith), q (omega arith))
 fill_kept Address b c d e p q = rw (p (omega arith), q (omega arith))
-fill_kept Undefined b c d e p q = refl
 
 means_kept : (l : List ℕ) (n : ℕ) (m : Addressing) → Means l n m → (t : List ℕ) → Means (take n l ++ t) n m
 means_kept l n m w t =
@@ -148,40 +151,36 @@ means_kept l n m w t =
     let some = w.some in
     let x = w.extra in
     let first = kept_at n l t h 0 (omega arith) in
-    let s = shape_of (get_or l 0 0) in
+    let s = w.shape in
     record {
       some = some;
       most = w.most;
       there = kept_long n l t h;
+      shape = s;
       defined = rw first w.defined;
-      extra = rw first x;
-      reads =
-          rw first
-          (fill_kept s _ _ (get_or l 1 0) (get_or l 2 0) (λ a. kept_at n l t h 1 (omega arith)) (λ a. kept_at n l t h 2 (omega arith)) ∙ w.reads);
+      extra = x;
+      reads = fill_kept s _ _ (get_or l 1 0) (get_or l 2 0) (λ a. kept_at n l t h 1 (omega arith)) (λ a. kept_at n l t h 2 (omega arith)) ∙ w.reads;
     }
 
 module _ (after : Origin) (l : List ℕ) where
-  abbrev indexed : List ℕ → Reading
+  abbrev indexed : List ℕ → Result Reading Refusal
   indexed m = indexed_at (rest_of m) after
 
-  abbrev shape : Shape
-  shape = shape_of (get_or l 0 0)
-
-  module _ (z : length l ≡ 0 → ⊥) (d : is_defined shape ≡ true) (h : 1 + extra_of shape ≤ length l) where
+  module _ (shape : Shape) (z : length l ≡ 0 → ⊥) (d : shape_of (get_or l 0 0) ≡ Ok shape) (h : 1 + extra_of shape ≤ length l) where
     means : Means l (1 + extra_of shape) (fill_of shape (get_or l 1 0) (get_or l 2 0))
     means =
         let x = extra_small shape in
-        record { some = omega arith; most = omega arith; there = h; defined = d; extra = refl; reads = refl }
+        record { some = omega arith; most = omega arith; there = h; shape = shape; defined = d; extra = refl; reads = refl }
 
-    cut_index : (k : ℕ) → k < 1 + extra_of shape → indexed (take k l) ≡ unread cut_short
+    cut_index : (k : ℕ) → k < 1 + extra_of shape → indexed (take k l) ≡ Err CutShort
     unfolding indexed_at pick
     cut_index zero b = refl
     cut_index (suc k) b =
         let n = length-take-le (suc k) l (omega arith) in
         let first : get_or (take (suc k) l) 0 0 ≡ get_or l 0 0 = get_or-take (suc k) l 0 0 (omega arith) in
-        indexed_cut (rest_of (take (suc k) l)) after (omega arith) (rw first d) (rw first (omega arith))
+        indexed_cut (rest_of (take (suc k) l)) after shape (omega arith) (rw first d) (omega arith)
 
-    own_index : Own (unread cut_short) indexed l (1 + extra_of shape)
+    own_index : Own short_operand indexed l (1 + extra_of shape)
     own_index =
         let n = 1 + extra_of shape in
         let m = fill_of shape (get_or l 1 0) (get_or l 2 0) in
@@ -191,14 +190,17 @@ module _ (after : Origin) (l : List ℕ) where
           kept = λ t. indexed_back (take n l ++ t) n m after (means_kept l n m means t) ∙ sym (indexed_back l n m after means);
         }
 
+  shaped_own : (x : Result Shape Refusal) → (length l ≡ 0 → ⊥) → shape_of (get_or l 0 0) ≡ x → Sized indexed l (indexed_as x (rest_of l) after)
+  unfolding indexed_as
+  shaped_own (Ok shape) z d =
+      by_test (Sized indexed l) (ltb (length l) (1 + extra_of shape)) (λ _. tt)
+      (λ q. own_index shape z d (ltb-false (length l) (1 + extra_of shape) q))
+  shaped_own (Err e) z d = tt
+
   indexed_own : Owned indexed l
-  unfolding indexed_at indexed_as
+  unfolding indexed_at
   indexed_own =
-      by_test (Sized indexed l) (eqb (length l) 0) (λ _ z. absurd (omega arith))
-      (λ z. by_test (Sized indexed l) (is_defined shape)
-      (λ d. by_test (Sized indexed l) (ltb (length l) (1 + extra_of shape)) (λ _ y. absurd (omega arith))
-      (λ q _. own_index (eqb-false (length l) 0 z) d (ltb-false (length l) (1 + extra_of shape) q)))
-      (λ d y. absurd (omega (arith, y, lacking_undefined shape d))))
+      by_test (Sized indexed l) (eqb (length l) 0) (λ _. tt) (λ z. shaped_own (shape_of (get_or l 0 0)) (eqb-false (length l) 0 z) refl)
 
 -- ---- a list of registers
 module _ (o : ℕ) where
@@ -211,7 +213,7 @@ module _ (o : ℕ) where
   unfolding registers_at pick
   pair_back r z i = rw (ne_eqb r.left 0 z, i)
 
-  abbrev registers : List ℕ → Reading
+  abbrev registers : List ℕ → Result Reading Refusal
   registers m = registers_at o (rest_of m)
 
   -- where both have a first byte, and it is the same
@@ -220,12 +222,12 @@ module _ (o : ℕ) where
   same_list r q y z e = rw (ne_eqb r.left 0 y, ne_eqb q.left 0 z, e)
 
   module _ (l : List ℕ) where
-    cut_list : (k : ℕ) → k < 1 → registers (take k l) ≡ unread cut_short
+    cut_list : (k : ℕ) → k < 1 → registers (take k l) ≡ Err CutShort
     unfolding registers_at pick
     cut_list zero b = refl
     cut_list (suc k) b = absurd (omega arith)
 
-    own_list : (length l ≡ 0 → ⊥) → Own (unread cut_short) registers l 1
+    own_list : (length l ≡ 0 → ⊥) → Own short_operand registers l 1
     own_list z =
         let h : 1 ≤ length l = omega arith in
         record {
@@ -235,16 +237,16 @@ module _ (o : ℕ) where
               λ t. same_list (rest_of (take 1 l ++ t)) (rest_of l) (omega (arith, kept_long 1 l t h)) z (kept_at 1 l t h 0 (omega arith));
         }
 
-    own_pair : (length l ≡ 0 → ⊥) → (p : Pair) → Sized registers l (paired_as p)
-    own_pair z (pair.Is s d) _ = own_list z
-    own_pair z pair.Undefined y = absurd (omega arith)
+    own_pair : (length l ≡ 0 → ⊥) → (x : Result Pair Refusal) → Sized registers l (paired_as x)
+    own_pair z (Ok p) = own_list z
+    own_pair z (Err e) = tt
 
     registers_own : Owned registers l
     unfolding registers_at
     registers_own =
-        by_test (Sized registers l) (eqb (length l) 0) (λ _ z. absurd (omega arith))
+        by_test (Sized registers l) (eqb (length l) 0) (λ _. tt)
         (λ z. by_pick (Sized registers l) (is_pair o) (own_pair (eqb-false (length l) 0 z) (pair_of (get_or l 0 0)))
-        (λ _. own_list (eqb-false (length l) 0 z)))
+        (own_list (eqb-false (length l) 0 z)))
 
 -- ---- every form
 pub operand_own : (o form size : ℕ) (after : Origin) (l : List ℕ) → Owned (λ m. operand_of o form size (rest_of m) after) l

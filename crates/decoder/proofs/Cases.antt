@@ -7,8 +7,10 @@ use mathlib.Core.List.{List, [], ◌∷◌, ◌++◌, map}
 use Prim.Native.Nat.{ℕ}
 use lib.Dec.{eqb}
 use lib.ListN.{get_or}
+use Rattle.std.specs.Prelude.{Result, Ok, Err}
 use Rattle.ground.specs.Choice.{pick}
-use Rattle.ground.specs.Refusals.{undefined, cut_short, beyond}
+use Rattle.ground.specs.declared.refusals.Refusal.{Refusal}
+use Rattle.ground.specs.declared.refusals.Refusal.TheVariants.{Undefined, CutShort, Beyond}
 use Rattle.values.specs.Widths.{extended}
 use Rattle.values.specs.declared.pages.Page.{Page}
 use Rattle.values.specs.declared.pages.Page.TheVariants.{Unknown, Known}
@@ -22,13 +24,11 @@ use Rattle.postbytes.specs.Reading.{direct_only, address_only, high_of, shape_of
 use Rattle.postbytes.specs.Lists.{other_of, size_of}
 use Rattle.postbytes.specs.ListsRead.{registers_of, pair_of}
 use Rattle.decoder.specs.declared.Origin.{Origin}
-use Rattle.decoder.specs.declared.Decoded.{Decoded}
-use Rattle.decoder.specs.declared.Counted.{Counted}
 use Rattle.decoder.specs.declared.Parts.{Parts}
 use Rattle.decoder.specs.declared.Kind.{Kind}
-use Rattle.decoder.specs.declared.Kind.TheVariants.{None, Inherent, Immediate, Memory, Branch, Push, Pair, Offset, Counter, Accumulator, Step, Address}
+use Rattle.decoder.specs.declared.Kind.TheVariants.{Inherent, Immediate, Memory, Branch, Push, Pair, Offset, Counter, Accumulator, Step, Address}
 use Rattle.decoder.specs.Origin.{origin, shifted, outside, target_of, direct_of, unseen}
-use Rattle.decoder.specs.Meaning.{answer, refuse, joined, parts_of}
+use Rattle.decoder.specs.Meaning.{Answer, answer, joined, parts_of}
 use Rattle.decoder.specs.Operands.{number_of, distance_of, numbered_of, numbered_at, resolved, indexed_as, indexed_at, own_of, registers_at, operand_of}
 use Rattle.decoder.specs.Front.{coded_of, front_of, decode_of}
 use Rattle.decoder.specs.Run.{run_from, run_of, counted_of, next_of}
@@ -40,14 +40,14 @@ pub data Question : Type 0 where
   next : List ℕ → ℕ → ℕ → Question
   count : List ℕ → ℕ → Question
 
-pub data Answer : Type 0 where
-  all : List Decoded → Answer
-  counted : Counted → Answer
+pub data Told : Type 0 where
+  all : List Answer → Told
+  counted : Result ℕ Refusal → Told
 
-abbrev only : Decoded → Answer
+abbrev only : Answer → Told
 only d = all (d ∷ [])
 
-abbrev ask : Page → Question → Answer
+abbrev ask : Page → Question → Told
 ask page (front l at) = only (decode_of l (origin at page))
 ask page (run l at) = all (run_of l (origin at page))
 ask page (next l at n) = only (next_of l (origin at page) n)
@@ -107,7 +107,7 @@ paged =
     ∷ run between 0 ∷ next between 0 1 ∷ next between 0 3 ∷ count between 0
     ∷ []
 
-abbrev answered : List Answer
+abbrev answered : List Told
 answered =
     all (answer 2 54 (Offset X false 0) ∷ answer 1 128 Inherent ∷ [])
     ∷ only (answer 1 128 Inherent)
@@ -126,34 +126,34 @@ answered =
     ∷ only (answer 2 54 (Immediate 0xFF)) ∷ only (answer 4 121 (Immediate 0x1234))
     ∷ only (answer 5 116 (Address 0x1234)) ∷ only (answer 2 54 (Accumulator X false A)) ∷ only (answer 2 54 (Step Y false 4))
     ∷ only (answer 2 138 (Push 0x3BB)) ∷ only (answer 2 140 (Push 0x40)) ∷ only (answer 2 137 (Pair A DP))
-    ∷ only (refuse undefined) ∷ only (refuse undefined) ∷ only (refuse undefined) ∷ only (refuse undefined)
-    ∷ only (refuse undefined) ∷ only (refuse undefined) ∷ only (refuse undefined)
-    ∷ only (refuse undefined)
-    ∷ only (refuse cut_short) ∷ only (refuse cut_short) ∷ only (refuse cut_short) ∷ only (refuse cut_short) ∷ only (refuse cut_short)
-    ∷ only (refuse cut_short) ∷ only (refuse cut_short)
-    ∷ only (refuse cut_short)
-    ∷ only (refuse beyond) ∷ only (refuse beyond) ∷ only (answer 1 124 Inherent)
-    ∷ only (refuse beyond) ∷ all [] ∷ all (answer 1 124 Inherent ∷ refuse undefined ∷ [])
+    ∷ only (Err Undefined) ∷ only (Err Undefined) ∷ only (Err Undefined) ∷ only (Err Undefined)
+    ∷ only (Err Undefined) ∷ only (Err Undefined) ∷ only (Err Undefined)
+    ∷ only (Err Undefined)
+    ∷ only (Err CutShort) ∷ only (Err CutShort) ∷ only (Err CutShort) ∷ only (Err CutShort) ∷ only (Err CutShort)
+    ∷ only (Err CutShort) ∷ only (Err CutShort)
+    ∷ only (Err CutShort)
+    ∷ only (Err Beyond) ∷ only (Err Beyond) ∷ only (answer 1 124 Inherent)
+    ∷ only (Err Beyond) ∷ all [] ∷ all (answer 1 124 Inherent ∷ Err Undefined ∷ [])
     ∷ []
 
 -- under a known page, where the byte 05 stands for that address
-abbrev known : ℕ → List Answer
+abbrev known : ℕ → List Told
 known address =
-    only (answer 2 54 (Memory address)) ∷ only (refuse cut_short) ∷ only (refuse cut_short) ∷ only (refuse cut_short)
+    only (answer 2 54 (Memory address)) ∷ only (Err CutShort) ∷ only (Err CutShort) ∷ only (Err CutShort)
     ∷ only (answer 3 54 (Memory 0x2005))
-    ∷ only (refuse beyond)
+    ∷ only (Err Beyond)
     ∷ all (answer 1 124 Inherent ∷ answer 2 54 (Memory address) ∷ answer 1 124 Inherent ∷ [])
     ∷ only (answer 2 54 (Memory address)) ∷ only (answer 1 124 Inherent)
-    ∷ counted (record { refusal = 0; count = 3 })
+    ∷ counted (Ok 3)
     ∷ []
 
-abbrev unknown : List Answer
+abbrev unknown : List Told
 unknown =
-    only (refuse undefined) ∷ only (refuse undefined) ∷ only (refuse undefined) ∷ only (refuse cut_short)
+    only (Err Undefined) ∷ only (Err Undefined) ∷ only (Err Undefined) ∷ only (Err CutShort)
     ∷ only (answer 3 54 (Memory 0x2005))
-    ∷ only (refuse beyond)
-    ∷ all (answer 1 124 Inherent ∷ refuse undefined ∷ []) ∷ only (refuse undefined) ∷ only (answer 1 124 Inherent)
-    ∷ counted (record { refusal = undefined; count = 0 })
+    ∷ only (Err Beyond)
+    ∷ all (answer 1 124 Inherent ∷ Err Undefined ∷ []) ∷ only (Err Undefined) ∷ only (answer 1 124 Inherent)
+    ∷ counted (Err Undefined)
     ∷ []
 
 pub cases :
@@ -175,12 +175,10 @@ kind_of p =
     (pick (eqb p.kind 8) (Counter p.indirect p.number)
     (pick (eqb p.kind 9) (Accumulator p.first p.indirect p.second)
     (pick (eqb p.kind 10) (Step p.first p.indirect p.step)
-    (pick (eqb p.kind 11) (Address p.number)
-    None))))))))))
+    (Address p.number))))))))))
 
 pub parts_tell : (k : Kind) → kind_of (parts_of k) ≡ k
 unfolding pick
-parts_tell None = refl
 parts_tell Inherent = refl
 parts_tell (Immediate n) = refl
 parts_tell (Memory a) = refl
@@ -200,4 +198,3 @@ kinds_alike (addressing.Counter ind n) from = refl
 kinds_alike (addressing.Accumulator r ind a) from = refl
 kinds_alike (addressing.Step r ind k) from = refl
 kinds_alike (addressing.Address a) from = refl
-kinds_alike addressing.Undefined from = refl

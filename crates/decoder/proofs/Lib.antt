@@ -10,3 +10,4 @@ pub mod Runs
 pub mod Back
 pub mod Cases
 pub mod Only
+pub mod Equal

@@ -10,8 +10,6 @@ use Rattle.decoder.proofs.count_run.Kinds as count_run_kinds
 use Rattle.decoder.proofs.count_run.Reads as count_run
 use Rattle.decoder.proofs.Kind.in_parts.Kinds as in_parts_kinds
 use Rattle.decoder.proofs.Kind.in_parts.Reads as in_parts
-use Rattle.decoder.proofs.front.refused.Kinds as refused_kinds
-use Rattle.decoder.proofs.front.refused.Reads as refused
 use Rattle.decoder.proofs.front.shift.Kinds as shift_kinds
 use Rattle.decoder.proofs.front.shift.Reads as shift
 use Rattle.decoder.proofs.front.front.Kinds as front_kinds
@@ -32,9 +30,6 @@ pub in_parts_single : Single 0 in_parts_kinds.ps in_parts_kinds.r in_parts.Post
 in_parts_single κs a x y s t p q = p ∙ sym q
 
 -- what the crate's own files share
-pub refused_single : Single 0 refused_kinds.ps refused_kinds.r refused.Post
-refused_single κs a x y s t p q = p ∙ sym q
-
 pub shift_single : Single 0 shift_kinds.ps shift_kinds.r shift.Post
 shift_single κs a x y s t p q = p ∙ sym q
 

@@ -1,8 +1,8 @@
 -- 01, "Meaning": "Operation .., addressing kind, then only what that form uses". The number and the values of each kind, and the decoder's answers.
-use Rattle.std.specs.Prelude.{ℕ, ◌+◌, Bool, false, eqb}
-use Rattle.ground.specs.Choice.{pick}
+use Rattle.std.specs.Prelude.{ℕ, ◌+◌, Bool, false, Result, Ok, Err}
+use Rattle.ground.specs.declared.refusals.Refusal.{Refusal}
 use Rattle.decoder.specs.declared.Kind.{Kind}
-use Rattle.decoder.specs.declared.Kind.TheVariants.{None, Inherent, Immediate, Memory, Branch, Push, Pair, Offset, Counter, Accumulator, Step, Address}
+use Rattle.decoder.specs.declared.Kind.TheVariants.{Inherent, Immediate, Memory, Branch, Push, Pair, Offset, Counter, Accumulator, Step, Address}
 use Rattle.decoder.specs.declared.operands.Reading.{Reading}
 use Rattle.decoder.specs.declared.Decoded.{Decoded}
 use Rattle.decoder.specs.declared.Parts.{Parts}
@@ -14,7 +14,6 @@ parts kind indirect step registers first second number =
 
 -- the kinds as docs/ROWS.md numbers them; what a kind does not use is 0
 abbrev pub parts_of : Kind → Parts
-parts_of None = parts 0 false 0 0 0 0 0
 parts_of Inherent = parts 1 false 0 0 0 0 0
 parts_of (Immediate number) = parts 2 false 0 0 0 0 number
 parts_of (Memory address) = parts 3 false 0 0 0 0 address
@@ -27,21 +26,19 @@ parts_of (Accumulator register indirect accumulator) = parts 9 indirect 0 0 regi
 parts_of (Step register indirect step) = parts 10 indirect step 0 register 0 0
 parts_of (Address address) = parts 11 false 0 0 0 0 address
 
--- an operand of so many bytes, and no operand
-abbrev pub reading : (size : ℕ) → Kind → Reading
-reading size kind = record { refusal = 0; size = size; kind = kind }
+-- what the decoder answers: an instruction, or why there is none
+abbrev pub Answer : Type 0
+Answer = Result Decoded Refusal
 
-abbrev pub unread : ℕ → Reading
-unread n = record { refusal = n; size = 0; kind = None }
+-- an operand of so many bytes
+abbrev pub reading : (size : ℕ) → Kind → Result Reading Refusal
+reading size kind = Ok (record { size = size; kind = kind })
 
--- an instruction of so many bytes; or a refusal, its number and zeros
-abbrev pub answer : (length operation : ℕ) → Kind → Decoded
-answer length operation kind =
-    record { refusal = 0; length = length; meaning = record { operation = operation; kind = kind } }
-
-abbrev pub refuse : ℕ → Decoded
-refuse n = record { refusal = n; length = 0; meaning = record { operation = 0; kind = None } }
+-- an instruction of so many bytes
+abbrev pub answer : (length operation : ℕ) → Kind → Answer
+answer length operation kind = Ok (record { length = length; meaning = record { operation = operation; kind = kind } })
 
 -- an operation with its operand, after a code of so many bytes
-unfoldable pub joined : (code o : ℕ) → Reading → Decoded
-joined code o r = pick (eqb r.refusal 0) (answer (code + r.size) o r.kind) (refuse r.refusal)
+unfoldable pub joined : (code o : ℕ) → Result Reading Refusal → Answer
+joined code o (Ok r) = answer (code + r.size) o r.kind
+joined code o (Err e) = Err e

@@ -1,8 +1,9 @@
 -- The operand after a code, by the sheet: which bytes are its own, and what they mean.
 -- "14 as soon as the bytes present are undefined, else 15".
-use Rattle.std.specs.Prelude.{ℕ, ◌+◌, Bool, ◌||◌, List, eqb, ltb, leb, length, get_or}
+use Rattle.std.specs.Prelude.{ℕ, ◌+◌, Bool, ◌||◌, List, eqb, ltb, leb, length, get_or, Result, Ok, Err}
 use Rattle.ground.specs.Choice.{pick}
-use Rattle.ground.specs.Refusals.{undefined, cut_short}
+use Rattle.ground.specs.declared.refusals.Refusal.{Refusal}
+use Rattle.ground.specs.declared.refusals.Refusal.TheVariants.{Undefined, CutShort}
 use Rattle.ground.specs.Words.{low, word}
 use Rattle.values.specs.Widths.{extended}
 use Rattle.rows.specs.Forms as forms
@@ -10,17 +11,16 @@ use Rattle.postbytes.specs.declared.Shape.{Shape}
 use Rattle.postbytes.specs.declared.Addressing.{Addressing}
 use Rattle.postbytes.specs.declared.Addressing.TheVariants as addressing
 use Rattle.postbytes.specs.declared.Pair as pair
-use Rattle.postbytes.specs.declared.Pair.TheVariants as pairs
 use Rattle.postbytes.specs.Registers.{U, S}
-use Rattle.postbytes.specs.ListsRead.{registers_of, pair_of, refusal_of_pair}
-use Rattle.postbytes.specs.Reading.{shape_of, refusal_of_shape, is_defined, extra_of, fill_of}
+use Rattle.postbytes.specs.ListsRead.{registers_of, pair_of}
+use Rattle.postbytes.specs.Reading.{shape_of, extra_of, fill_of}
 use Rattle.decoder.specs.declared.Origin.{Origin}
 use Rattle.decoder.specs.declared.operands.Rest.{Rest}
 use Rattle.decoder.specs.declared.operands.Reading.{Reading}
 use Rattle.decoder.specs.declared.Kind.{Kind}
-use Rattle.decoder.specs.declared.Kind.TheVariants.{None, Inherent, Immediate, Memory, Branch, Push, Pair, Offset, Counter, Accumulator, Step, Address}
+use Rattle.decoder.specs.declared.Kind.TheVariants.{Inherent, Immediate, Memory, Branch, Push, Pair, Offset, Counter, Accumulator, Step, Address}
 use Rattle.decoder.specs.Origin.{shifted, target_of, direct_of, unseen}
-use Rattle.decoder.specs.Meaning.{reading, unread}
+use Rattle.decoder.specs.Meaning.{reading}
 
 -- some bytes: how many there are, and the first three
 abbrev pub rest_of : List ℕ → Rest
@@ -44,10 +44,10 @@ numbered_of form size n after =
     Inherent)))
 
 -- the operand that is a number of so many bytes, after the code; what is unseen is so before its bytes are there
-unfoldable pub numbered_at : (form size : ℕ) → Rest → Origin → Reading
+unfoldable pub numbered_at : (form size : ℕ) → Rest → Origin → Result Reading Refusal
 numbered_at form size r after =
-    pick (unseen form after) (unread undefined)
-    (pick (ltb r.left size) (unread cut_short) (reading size (numbered_of form size (number_of size r) after)))
+    pick (unseen form after) (Err Undefined)
+    (pick (ltb r.left size) (Err CutShort) (reading size (numbered_of form size (number_of size r) after)))
 
 -- what a postbyte means: "offset from PC and PCRelative are one kind; every PC form .. has its target"
 abbrev pub resolved : Addressing → Origin → Kind
@@ -56,18 +56,16 @@ resolved (addressing.Counter ind n) next = Counter ind (target_of next n)
 resolved (addressing.Accumulator r ind a) next = Accumulator r ind a
 resolved (addressing.Step r ind k) next = Step r ind k
 resolved (addressing.Address a) next = Address a
-resolved addressing.Undefined next = None
 
 -- a postbyte and the bytes that the sheet gives it
-unfoldable pub indexed_as : Shape → Rest → Origin → Reading
-indexed_as s r after =
-    pick (is_defined s)
-    (pick (ltb r.left (1 + extra_of s)) (unread cut_short)
-    (reading (1 + extra_of s) (resolved (fill_of s r.second r.third) (shifted after (1 + extra_of s)))))
-    (unread (refusal_of_shape s))
+unfoldable pub indexed_as : Result Shape Refusal → Rest → Origin → Result Reading Refusal
+indexed_as (Ok s) r after =
+    pick (ltb r.left (1 + extra_of s)) (Err CutShort)
+    (reading (1 + extra_of s) (resolved (fill_of s r.second r.third) (shifted after (1 + extra_of s))))
+indexed_as (Err refusal) r after = Err refusal
 
-unfoldable pub indexed_at : Rest → Origin → Reading
-indexed_at r after = pick (eqb r.left 0) (unread cut_short) (indexed_as (shape_of r.first) r after)
+unfoldable pub indexed_at : Rest → Origin → Result Reading Refusal
+indexed_at r after = pick (eqb r.left 0) (Err CutShort) (indexed_as (shape_of r.first) r after)
 
 -- EXG and TFR; the other operations with a list of registers push or pull
 abbrev pub is_pair : ℕ → Bool
@@ -78,19 +76,19 @@ unfoldable pub own_of : ℕ → ℕ
 own_of o = pick (leb 140 o) U S
 
 -- "14 for other EXG/TFR codes or unequal sizes"
-abbrev pub paired_as : pair.Pair → Reading
-paired_as (pairs.Is source destination) = reading 1 (Pair source destination)
-paired_as pairs.Undefined = unread (refusal_of_pair pairs.Undefined)
+abbrev pub paired_as : Result pair.Pair Refusal → Result Reading Refusal
+paired_as (Ok p) = reading 1 (Pair p.source p.destination)
+paired_as (Err refusal) = Err refusal
 
 -- "Decoding reads every push list"; "registers (a set for pushes)"
-unfoldable pub registers_at : ℕ → Rest → Reading
+unfoldable pub registers_at : ℕ → Rest → Result Reading Refusal
 registers_at o r =
-    pick (eqb r.left 0) (unread cut_short)
+    pick (eqb r.left 0) (Err CutShort)
     (pick (is_pair o) (paired_as (pair_of r.first))
     (reading 1 (Push (registers_of (own_of o) r.first))))
 
 -- the operand of an operation in a form: a postbyte, a list of registers, or a number of so many bytes
-unfoldable pub operand_of : (o form size : ℕ) → Rest → Origin → Reading
+unfoldable pub operand_of : (o form size : ℕ) → Rest → Origin → Result Reading Refusal
 operand_of o form size r after =
     pick (eqb form forms.indexed) (indexed_at r after)
     (pick (eqb form forms.register) (registers_at o r)

@@ -4,21 +4,20 @@
 mod front;
 mod operands;
 
-ghost use Rattle.std.specs.Prelude.{◌≡◌};
+ghost use Rattle.std.specs.Prelude.{◌≡◌, false};
 ghost use Rattle.decoder.specs.Origin.{origin, outside};
 ghost use Rattle.decoder.specs.Meaning.{parts, parts_of};
 ghost use Rattle.decoder.specs.Front.{decode_of};
 ghost use Rattle.decoder.specs.Run.{run_of, next_of, counted_of};
 
-use front::{front, refused, shift};
-use ground::refusals::{BEYOND, CUT_SHORT};
+use front::{front, shift};
+use ground::refusals::Refusal;
 use values::pages::Page;
 
-// What an instruction's operand is: its addressing kind, and only what that kind uses. Registers and steps go by number. `None` stands
-// beside a refusal, and nowhere else.
-#[derive(Clone, Copy)]
+// What an instruction's operand is: its addressing kind, and only what that kind uses. Registers and steps go by the numbers that a row may hold
+// (docs/ROWS.md).
+#[derive(Clone, Copy, PartialEq, Eq)]
 pub enum Kind {
-    None,
     Inherent,
     Immediate {
         number: u16,
@@ -66,28 +65,20 @@ pub enum Kind {
 }
 
 // What an instruction means. Aliases are one operation.
-#[derive(Clone, Copy)]
+#[derive(Clone, Copy, PartialEq, Eq)]
 pub struct Meaning {
     pub operation: u8,
     pub kind: Kind,
 }
 
-// The instruction at the front of some bytes and how many of them are its own; or a refusal and zeros.
-#[derive(Clone, Copy)]
+// The instruction at the front of some bytes, and how many of them are its own.
+#[derive(Clone, Copy, PartialEq, Eq)]
 pub struct Decoded {
-    pub refusal: u8,
     pub length: u8,
     pub meaning: Meaning,
 }
 
-// How many instructions a run has; or a refusal and 0.
-#[derive(Clone, Copy)]
-pub struct Counted {
-    pub refusal: u8,
-    pub count: usize,
-}
-
-// A kind by its number, and its values one by one: 0 and false where the kind has none.
+// A kind by its number, and its values one by one: 0 and false where the kind has none. Numbers, since C reads them (docs/ROWS.md).
 #[derive(Clone, Copy)]
 pub struct Parts {
     pub kind: u8,
@@ -106,26 +97,18 @@ pub struct Origin {
     pub page: Page,
 }
 
-// A kind's number, and its values.
-fn made(
-    kind: u8,
-    indirect: bool,
-    step: u8,
-    registers: u16,
-    first: u8,
-    second: u8,
-    number: u16,
-) -> Parts
-    ensures { result ≡ parts kind indirect step registers first second number }
+// A kind that uses nothing.
+fn bare(kind: u8) -> Parts
+    ensures { result ≡ parts kind false 0 0 0 0 0 }
 {
     Parts {
         kind,
-        indirect,
-        step,
-        registers,
-        first,
-        second,
-        number,
+        indirect: false,
+        step: 0,
+        registers: 0,
+        first: 0,
+        second: 0,
+        number: 0,
     }
 }
 
@@ -134,92 +117,121 @@ impl Kind {
         ensures { result ≡ parts_of self }
     {
         match self {
-            Kind::None => made(0, false, 0, 0, 0, 0, 0),
-            Kind::Inherent => made(1, false, 0, 0, 0, 0, 0),
-            Kind::Immediate { number } => made(2, false, 0, 0, 0, 0, number),
-            Kind::Memory { address } => made(3, false, 0, 0, 0, 0, address),
-            Kind::Branch { target } => made(4, false, 0, 0, 0, 0, target),
-            Kind::Push { registers } => made(5, false, 0, registers, 0, 0, 0),
+            Kind::Inherent => bare(1),
+            Kind::Immediate { number } => Parts { number, ..bare(2) },
+            Kind::Memory { address } => Parts {
+                number: address,
+                ..bare(3)
+            },
+            Kind::Branch { target } => Parts {
+                number: target,
+                ..bare(4)
+            },
+            Kind::Push { registers } => Parts {
+                registers,
+                ..bare(5)
+            },
             Kind::Pair {
                 source,
                 destination,
-            } => made(6, false, 0, 0, source, destination, 0),
+            } => Parts {
+                first: source,
+                second: destination,
+                ..bare(6)
+            },
             Kind::Offset {
                 register,
                 indirect,
                 offset,
-            } => made(7, indirect, 0, 0, register, 0, offset),
-            Kind::Counter { indirect, target } => made(8, indirect, 0, 0, 0, 0, target),
+            } => Parts {
+                indirect,
+                first: register,
+                number: offset,
+                ..bare(7)
+            },
+            Kind::Counter { indirect, target } => Parts {
+                indirect,
+                number: target,
+                ..bare(8)
+            },
             Kind::Accumulator {
                 register,
                 indirect,
                 accumulator,
-            } => made(9, indirect, 0, 0, register, accumulator, 0),
+            } => Parts {
+                indirect,
+                first: register,
+                second: accumulator,
+                ..bare(9)
+            },
             Kind::Step {
                 register,
                 indirect,
                 step,
-            } => made(10, indirect, step, 0, register, 0, 0),
-            Kind::Address { address } => made(11, false, 0, 0, 0, 0, address),
+            } => Parts {
+                indirect,
+                step,
+                first: register,
+                ..bare(10)
+            },
+            Kind::Address { address } => Parts {
+                number: address,
+                ..bare(11)
+            },
         }
     }
 }
 
 // Some byte would lie beyond 65535.
+#[tactic(auto, unfolding(crate::specs::Origin::outside))]
 fn is_outside(bytes: &[u8], from: Origin) -> bool
     ensures { result ≡ outside bytes.now from }
 {
-    65536 - (from.address as usize) < bytes.len()
+    65536 < from.address as usize + bytes.len()
 }
 
 // The instruction at the front of bytes that stand from an address on.
-pub fn decode(bytes: &[u8], address: u16, page: Page) -> Decoded
+#[tactic(auto, unfolding(crate::specs::Front::decode_of, ground::specs::Choice::pick))]
+pub fn decode(bytes: &[u8], address: u16, page: Page) -> Result<Decoded, Refusal>
     ensures { result ≡ decode_of bytes.now (origin address page) }
 {
     let from = Origin { address, page };
     if is_outside(bytes, from) {
-        return refused(BEYOND);
+        return Err(Refusal::Beyond);
     }
     front(bytes, 0, from)
 }
 
 // The instruction that begins at a place of a run, whose first byte stands at the address.
-pub fn next_of_run(bytes: &[u8], address: u16, page: Page, at: usize) -> Decoded
+#[tactic(auto, using(crate::proofs::Origins::inside, crate::proofs::Origins::next_past), unfolding(crate::specs::Run::next_of, ground::specs::Choice::pick))]
+pub fn next_of_run(bytes: &[u8], address: u16, page: Page, at: usize) -> Result<Decoded, Refusal>
     ensures { result ≡ next_of bytes.now (origin address page) at }
 {
     let from = Origin { address, page };
     if is_outside(bytes, from) {
-        return refused(BEYOND);
+        return Err(Refusal::Beyond);
     }
     if bytes.len() <= at {
-        return refused(CUT_SHORT);
+        return Err(Refusal::CutShort);
     }
     front(bytes, at, shift(from, at as u16))
 }
 
 // How many instructions a run has, from its first byte to its last.
-pub fn count_run(bytes: &[u8], address: u16, page: Page) -> Counted
+pub fn count_run(bytes: &[u8], address: u16, page: Page) -> Result<usize, Refusal>
     ensures { result ≡ counted_of (run_of bytes.now (origin address page)) }
 {
     let from = Origin { address, page };
     if is_outside(bytes, from) {
-        return Counted {
-            refusal: BEYOND,
-            count: 0,
-        };
+        return Err(Refusal::Beyond);
     }
+    // A loop by hand: where the next instruction begins hangs on the one that was read.
     let mut at: usize = 0;
     let mut count: usize = 0;
     while at < bytes.len() {
-        let read = front(bytes, at, shift(from, at as u16));
-        if read.refusal != 0 {
-            return Counted {
-                refusal: read.refusal,
-                count: 0,
-            };
-        }
+        let read = front(bytes, at, shift(from, at as u16))?;
         at += read.length as usize;
         count += 1;
     }
-    Counted { refusal: 0, count }
+    Ok(count)
 }

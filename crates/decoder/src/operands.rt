@@ -1,30 +1,30 @@
 // The operand after a code, by value: how many bytes are left, the first three of them, and what they say.
 ghost use Rattle.std.specs.Prelude.{◌≡◌};
-ghost use Rattle.postbytes.specs.Reading.{is_defined};
 ghost use Rattle.postbytes.specs.ListsRead.{pair_of};
 ghost use Rattle.decoder.specs.Origin.{shifted, target_of, direct_of, unseen};
-ghost use Rattle.decoder.specs.Meaning.{reading, unread};
 ghost use Rattle.decoder.specs.Operands.{number_of, distance_of, numbered_of, numbered_at, resolved, indexed_at, own_of, paired_as, registers_at, operand_of};
 
 use crate::{Kind, Origin};
-use ground::refusals::{CUT_SHORT, UNDEFINED};
+use ground::refusals::Refusal;
 use ground::words::add;
+use postbytes::Addressing;
 use postbytes::lists::{pair_of, registers_of};
 use postbytes::numbers::{S, U};
 use postbytes::shapes::{extra_of, fill, shape_of};
-use postbytes::{Addressing, Pair, Shape};
 use rows::forms::*;
 use values::Value;
 use values::pages::Page;
 
-// Operations with a list of registers: EXG and TFR, then PSHS, PULS, PSHU and PULU.
+// Operations with a list of registers: EXG and TFR, then PSHS, PULS, PSHU and PULU. Operations, forms and sizes go by the numbers of the sheet's rows, and
+// no enum: a row may hold any (docs/ROWS.md).
 const EXG: u8 = 136;
 
 const TFR: u8 = 137;
 
 const PSHU: u8 = 140;
 
-// The bytes after a code: how many there are, and the first three, 0 where there is none.
+// The bytes after a code: how many there are, and the first three, 0 where there is none. No slice: no operand has more of its own, and so an operand is read
+// with no index to be proved.
 #[derive(Clone, Copy)]
 pub struct Rest {
     pub left: usize,
@@ -33,35 +33,15 @@ pub struct Rest {
     pub third: u8,
 }
 
-// An operand, and how many bytes are its own; or a refusal.
+// An operand, and how many bytes are its own.
 #[derive(Clone, Copy)]
 pub struct Reading {
-    pub refusal: u8,
     pub size: u8,
     pub kind: Kind,
 }
 
-fn refused(number: u8) -> Reading
-    ensures { result ≡ unread number }
-{
-    Reading {
-        refusal: number,
-        size: 0,
-        kind: Kind::None,
-    }
-}
-
-fn read(size: u8, kind: Kind) -> Reading
-    ensures { result ≡ reading size kind }
-{
-    Reading {
-        refusal: 0,
-        size,
-        kind,
-    }
-}
-
 // Where an offset from the end of an instruction leads, of which so many bytes stand after its code.
+#[tactic(auto, unfolding(crate::specs::Origin::target_of, crate::specs::Origin::shifted))]
 fn target(after: Origin, size: u8, offset: u16) -> u16
     ensures { result ≡ target_of (shifted after size) offset }
 {
@@ -69,6 +49,7 @@ fn target(after: Origin, size: u8, offset: u16) -> u16
 }
 
 // The address of a direct operand; under an unknown page none is read.
+#[tactic(auto, unfolding(crate::specs::Origin::direct_of))]
 fn direct(after: Origin, n: u16) -> u16
     ensures { result ≡ direct_of after n }
 {
@@ -80,6 +61,7 @@ fn direct(after: Origin, n: u16) -> u16
 }
 
 // A direct code under an unknown page.
+#[tactic(auto, unfolding(crate::specs::Origin::unseen))]
 fn is_unseen(form: u8, after: Origin) -> bool
     ensures { result ≡ unseen form after }
 {
@@ -88,6 +70,7 @@ fn is_unseen(form: u8, after: Origin) -> bool
 }
 
 // The number in the first bytes: none, one or two of them.
+#[tactic(auto, unfolding(crate::specs::Operands::number_of, ground::specs::Choice::pick))]
 fn number(size: u8, rest: Rest) -> u16
     ensures { result ≡ number_of size rest }
 {
@@ -99,6 +82,7 @@ fn number(size: u8, rest: Rest) -> u16
 }
 
 // The distance of a branch: one byte is sign-extended.
+#[tactic(auto, unfolding(crate::specs::Operands::distance_of, ground::specs::Choice::pick, values::specs::Widths::sign_extended_of, values::specs::Widths::bits_of))]
 fn distance(size: u8, n: u16) -> u16
     ensures { result ≡ distance_of size n }
 {
@@ -111,6 +95,7 @@ fn distance(size: u8, n: u16) -> u16
 }
 
 // A number by its form.
+#[tactic(auto, unfolding(crate::specs::Operands::numbered_of, ground::specs::Choice::pick))]
 fn numbered(form: u8, size: u8, n: u16, after: Origin) -> Kind
     ensures { result ≡ numbered_of form size n after }
 {
@@ -128,16 +113,18 @@ fn numbered(form: u8, size: u8, n: u16, after: Origin) -> Kind
 }
 
 // The operand that is a number of so many bytes, or none.
-fn numbered_at(form: u8, size: u8, rest: Rest, after: Origin) -> Reading
+#[tactic(auto, unfolding(crate::specs::Operands::numbered_at, ground::specs::Choice::pick))]
+fn numbered_at(form: u8, size: u8, rest: Rest, after: Origin) -> Result<Reading, Refusal>
     ensures { result ≡ numbered_at form size rest after }
 {
     if is_unseen(form, after) {
-        return refused(UNDEFINED);
+        return Err(Refusal::Undefined);
     }
     if rest.left < size as usize {
-        return refused(CUT_SHORT);
+        return Err(Refusal::CutShort);
     }
-    read(size, numbered(form, size, number(size, rest), after))
+    let kind = numbered(form, size, number(size, rest), after);
+    Ok(Reading { size, kind })
 }
 
 // An indexed operand's meaning; an offset from the program counter is made its target.
@@ -177,68 +164,29 @@ fn resolve(addressing: Addressing, after: Origin, size: u8) -> Kind
             step,
         },
         Addressing::Address { address } => Kind::Address { address },
-        Addressing::Undefined => Kind::None,
-    }
-}
-
-// The sheet has the postbyte.
-fn is_defined(shape: Shape) -> bool
-    ensures { result ≡ is_defined shape }
-{
-    match shape {
-        Shape::NoOffset {
-            register: _,
-            indirect: _,
-        } => true,
-        Shape::FiveBits {
-            register: _,
-            offset: _,
-        } => true,
-        Shape::OneByte {
-            register: _,
-            indirect: _,
-        } => true,
-        Shape::TwoBytes {
-            register: _,
-            indirect: _,
-        } => true,
-        Shape::Accumulator {
-            register: _,
-            indirect: _,
-            accumulator: _,
-        } => true,
-        Shape::Step {
-            register: _,
-            indirect: _,
-            step: _,
-        } => true,
-        Shape::CounterByte { indirect: _ } => true,
-        Shape::CounterWord { indirect: _ } => true,
-        Shape::Address => true,
-        Shape::Undefined => false,
     }
 }
 
 // The operand of a postbyte and the bytes after it.
-fn indexed_at(rest: Rest, after: Origin) -> Reading
+#[tactic(auto, using(crate::proofs::Bounds::extra_small), unfolding(crate::specs::Operands::indexed_at, crate::specs::Operands::indexed_as, ground::specs::Choice::pick))]
+fn indexed_at(rest: Rest, after: Origin) -> Result<Reading, Refusal>
     ensures { result ≡ indexed_at rest after }
 {
     if rest.left == 0 {
-        return refused(CUT_SHORT);
+        return Err(Refusal::CutShort);
     }
-    let shape = shape_of(rest.first);
-    if !is_defined(shape) {
-        return refused(UNDEFINED);
-    }
+    let shape = shape_of(rest.first)?;
     let size = 1 + extra_of(shape);
     if rest.left < size as usize {
-        return refused(CUT_SHORT);
+        return Err(Refusal::CutShort);
     }
     let addressing = fill(shape, rest.second, rest.third);
-    read(size, resolve(addressing, after, size))
+    let kind = resolve(addressing, after, size);
+    Ok(Reading { size, kind })
 }
 
 // The stack pointer that an operation pushes or pulls with.
+#[tactic(auto, unfolding(crate::specs::Operands::own_of, ground::specs::Choice::pick))]
 fn own(operation: u8) -> u8
     ensures { result ≡ own_of operation }
 {
@@ -246,42 +194,43 @@ fn own(operation: u8) -> u8
 }
 
 // The registers of EXG and TFR.
-fn paired(byte: u8) -> Reading
+fn paired(byte: u8) -> Result<Reading, Refusal>
     ensures { result ≡ paired_as (pair_of byte) }
 {
-    let pair = pair_of(byte);
-    match pair {
-        Pair::Is {
-            source,
-            destination,
-        } => {
-            let kind = Kind::Pair {
-                source,
-                destination,
-            };
-            read(1, kind)
-        }
-        Pair::Undefined => refused(UNDEFINED),
-    }
+    let pair = pair_of(byte)?;
+    let kind = Kind::Pair {
+        source: pair.source,
+        destination: pair.destination,
+    };
+    Ok(Reading { size: 1, kind })
 }
 
 // The operand that is a list of registers.
-fn registers_at(operation: u8, rest: Rest) -> Reading
+#[tactic(auto, unfolding(crate::specs::Operands::registers_at, ground::specs::Choice::pick))]
+fn registers_at(operation: u8, rest: Rest) -> Result<Reading, Refusal>
     ensures { result ≡ registers_at operation rest }
 {
     if rest.left == 0 {
-        return refused(CUT_SHORT);
+        return Err(Refusal::CutShort);
     }
     let pair = (operation == EXG) | (operation == TFR);
     if pair {
         return paired(rest.first);
     }
     let registers = registers_of(own(operation), rest.first);
-    read(1, Kind::Push { registers })
+    let kind = Kind::Push { registers };
+    Ok(Reading { size: 1, kind })
 }
 
 // The operand of an operation in a form, with a number of so many bytes if the form has one.
-pub fn operand(operation: u8, form: u8, size: u8, rest: Rest, after: Origin) -> Reading
+#[tactic(auto, unfolding(crate::specs::Operands::operand_of, ground::specs::Choice::pick))]
+pub fn operand(
+    operation: u8,
+    form: u8,
+    size: u8,
+    rest: Rest,
+    after: Origin,
+) -> Result<Reading, Refusal>
     ensures { result ≡ operand_of operation form size rest after }
 {
     match form {

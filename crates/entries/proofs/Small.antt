@@ -10,18 +10,20 @@ use native.Mathlib.Omega.{arith}
 use lib.Dec.{eqb, ltb}
 use lib.ListN.{take, get_or}
 use borrow.Author.Tests.{eqb-true, eqb-false, ltb-false}
+use Rattle.std.specs.Prelude.{Result, Ok, Err, IfOk}
+use Rattle.std.proofs.lemmas.Result.{IfOk-at_ok}
+use Rattle.ground.specs.declared.refusals.Refusal.{Refusal}
 use Rattle.ground.specs.Words.{plus, minus, high, low}
 use Rattle.ground.proofs.Choices.{by_test, by_pick}
 use Rattle.ground.proofs.Tests.{neither_left}
 use Rattle.values.specs.declared.pages.Page.{Page}
-use Rattle.rows.specs.declared.Coded.{Coded}
-use Rattle.rows.specs.declared.Coded.TheVariants.{Code, Unknown, Missing}
+use Rattle.rows.specs.declared.Code.{Code}
 use Rattle.rows.specs.Forms.{inherent, immediate, direct, indexed, extended, relative}
-use Rattle.rows.specs.Lookup.{code_of}
+use Rattle.rows.specs.Lookup.{coded, code_of}
 use Rattle.rows.specs.Sizes.{number_size_of}
 use Rattle.rows.proofs.Laws.{pages, code_small}
 use Rattle.postbytes.specs.declared.Encoded.{Encoded}
-use Rattle.postbytes.specs.declared.Listed.{Listed}
+use Rattle.postbytes.specs.Writing.{encode_of}
 use Rattle.postbytes.proofs.Bytes as postbytes
 use Rattle.postbytes.proofs.Bytes.{address_in, bytes_fit, relative_bytes_fit, push_byte_fits, pair_byte_fits}
 use Rattle.records.specs.Fine.{Bytes}
@@ -36,10 +38,13 @@ use Rattle.instruction.specs.declared.Argument.{Argument}
 use Rattle.instruction.specs.declared.Argument.TheVariants.{Nothing, Number, Target, Indexed, Relative, Registers}
 use Rattle.instruction.specs.Names.{mode_register, mode_offset, mode_pc_relative, mode_inc_dec, mode_extended}
 use Rattle.instruction.specs.Forms.{strays, needs_value}
-use Rattle.instruction.specs.Choosing.{inherent_of, immediate_of, leaves_direct, stays_direct, directly_of, anew_as, anew_of, address_of, long_branch, branch_of, accumulator_index, offset_index, target_index, step_index, address_index, index_of, is_pair, own_stack, listed_of, registers_of, choose_of}
-use Rattle.instruction.specs.Bytes.{number_bytes, operand_bytes, code_size, behind_code, laid_at, laid_of}
-use Rattle.instruction.specs.Building.{early_of, accepted_of, finished_of, build_of, handed, make_of, fresh_from, fresh_of, bytes_in}
-use Rattle.instruction.proofs.Fits.{ArgumentFits, Fits, Early, early_leaves, unsigned_word, choose_fits}
+use Rattle.instruction.specs.Choosing.{inherent_of, immediate_of, leaves_direct, stays_direct, directly_of, anew_as, anew_of, address_of, long_branch, branch_of, accumulator_index, offset_index, target_index, step_index, address_index, index_of, is_pair, own_stack, listed_of, list_settled, registers_of, choose_of}
+use Rattle.instruction.specs.Bytes.{nothing, number_bytes, operand_bytes, code_size, behind_code, laid_at, laid_of}
+use Rattle.instruction.specs.Building.{accepted_of, fresh_of, bytes_in, instruction_of, tried_of, bytes_told}
+use Rattle.instruction.proofs.Fits.{unwraps, ArgumentFits, Fits, Early, unsigned_word, Builds, build_chosen}
+use Rattle.instruction.specs.Forms.{form_of}
+use Rattle.instruction.proofs.Results.{of_ok}
+use Rattle.instruction.proofs.Ready.{fresh_built}
 
 -- ---- the address of an extended indirect operand
 abbrev Addressed : Argument → Type 0
@@ -51,8 +56,8 @@ Addressed (Relative t ind) = Unit
 Addressed (Registers b) = Unit
 
 module _ (i : Instruction) (v : Values) (early : Early i v) where
-  abbrev Small : Chosen → Type 0
-  Small c = Addressed c.argument
+  abbrev Small : Result Chosen Refusal → Type 0
+  Small c = IfOk c (λ k. Addressed k.argument)
 
   -- what has a postbyte and is none of the other modes is of mode Extended, which has its value
   extended_word : eqb i.form indexed ≡ true → (i.operand.mode ≡ 0 → ⊥) → (i.operand.mode ≡ 1 → ⊥) → (i.operand.mode ≡ 2 → ⊥) → (i.operand.mode ≡ 3 → ⊥) → v.unsigned.number < 65536
@@ -75,6 +80,10 @@ module _ (i : Instruction) (v : Values) (early : Early i v) where
       (λ c. by_test Small (eqb o.mode mode_inc_dec) (λ _. by_pick Small _ tt (by_pick Small _ tt (omega arith)))
       (λ d. extended_word q (eqb-false o.mode 0 a) (eqb-false o.mode 1 b) (eqb-false o.mode 2 c) (eqb-false o.mode 3 d)))))
 
+  list_small : (l : Result ℕ Refusal) → Small (list_settled i l)
+  list_small (Ok byte) = tt
+  list_small (Err n) = tt
+
   choose_small : (page : Page) (address : ℕ) → Small (choose_of i v page address)
   unfolding choose_of inherent_of immediate_of address_of directly_of stays_direct leaves_direct anew_of anew_as branch_of long_branch registers_of
   choose_small page address =
@@ -85,7 +94,7 @@ module _ (i : Instruction) (v : Values) (early : Early i v) where
       (by_test Small (eqb i.form indexed) index_small
       (λ _. by_pick Small (eqb i.form relative)
       (by_pick Small _ tt (by_pick Small _ tt (by_pick Small _ tt (by_pick Small _ tt tt))))
-      (by_pick Small _ tt tt)))))
+      (list_small (listed_of i.operand))))))
 
 -- ---- the operand's bytes
 up_to_three : (a b c : ℕ) → a < 256 → b < 256 → c < 256 → (k : ℕ) → get_or (a ∷ b ∷ c ∷ []) k 0 < 256
@@ -101,10 +110,10 @@ number_bytes_lem size n h =
     (by_pick postbytes.Bytes (eqb size 2) (up_to_three (high n) (low n) 0 (omega arith) (omega arith) (omega arith))
     (up_to_three 0 0 0 (omega arith) (omega arith) (omega arith)))
 
-listed_byte : (o : Operand) → (listed_of o).byte < 256
+listed_byte : (o : Operand) → IfOk (listed_of o) (λ b. b < 256)
 unfolding listed_of
 listed_byte o =
-    by_pick (λ (l : Listed). l.byte < 256) (is_pair o.operation) (pair_byte_fits o.registers o.count)
+    by_pick (λ (l : Result ℕ Refusal). IfOk l (λ b. b < 256)) (is_pair o.operation) (pair_byte_fits o.registers o.count)
     (push_byte_fits (own_stack o.operation) o.registers o.count)
 
 operand_bytes_lem : (operand : Operand) (page : Page) (address o form after : ℕ) (a : Argument) → ArgumentFits operand page address o form a → Addressed a → postbytes.Bytes (operand_bytes o form a after)
@@ -112,11 +121,11 @@ unfolding operand_bytes
 operand_bytes_lem operand page address o form after Nothing f s = number_bytes_lem 0 0 (omega arith)
 operand_bytes_lem operand page address o form after (Number n) f s = number_bytes_lem (number_size_of o form) n f.word
 operand_bytes_lem operand page address o form after (Target t) f s = number_bytes_lem (number_size_of o form) (minus t (plus after (number_size_of o form))) (omega arith)
-operand_bytes_lem operand page address o form after (Indexed index) f s = bytes_fit index s
+operand_bytes_lem operand page address o form after (Indexed index) f s =
+    IfOk-at_ok postbytes.Bytes (unwraps (encode_of index) nothing f.accepted) (bytes_fit index s)
 operand_bytes_lem operand page address o form after (Relative t ind) f s = relative_bytes_fit t after ind
 operand_bytes_lem operand page address o form after (Registers b) f s =
-    let e = f.byte in
-    let h = listed_byte operand in
+    let h = of_ok (λ (n : ℕ). n < 256) (listed_byte operand) f.byte in
     up_to_three b 0 0 (omega arith) (omega arith) (omega arith)
 
 -- ---- the instruction's
@@ -132,7 +141,7 @@ behind_bytes page code e p k b =
     (k, (b 0, (b 1, (b 2, (omega arith, tt)))))
     (p, (k, (b 0, (b 1, (b 2, tt)))))
 
-page_small : (o form p c : ℕ) → code_of o form ≡ Code p c → p < 256
+page_small : (o form p c : ℕ) → code_of o form ≡ coded p c → p < 256
 page_small o form p c e =
     ⊎_elim (λ (q : p ≡ 0x00). omega arith) (λ (w : (p ≡ 0x10) ⊎ (p ≡ 0x11)). ⊎_elim (λ (q : p ≡ 0x10). omega arith) (λ (q : p ≡ 0x11). omega arith) w)
     (pages o form p c e)
@@ -141,34 +150,34 @@ laid_bytes : (operand : Operand) (under : Page) (address : ℕ) (c : Chosen) →
 unfolding laid_of laid_at
 laid_bytes operand under address c f s = from (code_of c.operation c.form) refl
   where
-    from : (k : Coded) → code_of c.operation c.form ≡ k → Bytes (laid_at k c address).bytes
-    from (Code page code) e =
-        behind_bytes page code (operand_bytes c.operation c.form c.argument (plus address (code_size page)))
-        (page_small c.operation c.form page code e) (code_small c.operation c.form page code e)
-        (operand_bytes_lem operand under address c.operation c.form (plus address (code_size page)) c.argument f.argument s)
-    from Unknown e = (omega arith, (omega arith, (omega arith, (omega arith, (omega arith, tt)))))
-    from Missing e = (omega arith, (omega arith, (omega arith, (omega arith, (omega arith, tt)))))
+    from : (k : Result Code Refusal) → code_of c.operation c.form ≡ k → Bytes (laid_at k c address).bytes
+    from (Ok k) e =
+        behind_bytes k.page k.code (operand_bytes c.operation c.form c.argument (plus address (code_size k.page)))
+        (page_small c.operation c.form k.page k.code e) (code_small c.operation c.form k.page k.code e)
+        (operand_bytes_lem operand under address c.operation c.form (plus address (code_size k.page)) c.argument f.argument s)
+    from (Err r) e = (omega arith, (omega arith, (omega arith, (omega arith, (omega arith, tt)))))
 
 abbrev AllBytes : Built → Type 0
 AllBytes b = Bytes (bytes_in b)
 
-build_bytes : (i : Instruction) (v : Values) (page : Page) (address : ℕ) → AllBytes (build_of i v page address)
-unfolding build_of finished_of accepted_of
-build_bytes i v page address =
-    let c = choose_of i v page address in
-    by_test AllBytes (eqb (early_of i v) 0)
-    (λ a. by_test AllBytes (eqb c.refusal 0)
-    (λ d. let e = early_leaves i v (eqb-true (early_of i v) 0 a) in
-    bytes_take (laid_of c address).length (laid_of c address).bytes
-    (laid_bytes i.operand page address c (choose_fits i v page address e (eqb-true c.refusal 0 d)) (choose_small i v e page address)))
-    (λ _. tt))
-    (λ _. tt)
+build_bytes : (i : Instruction) (v : Values) (page : Page) (address : ℕ) → IfOk (tried_of i v page address) AllBytes
+unfolding accepted_of
+build_bytes i v page address = go (tried_of i v page address) (build_chosen i v page address)
+  where
+    go : (t : Result Built Refusal) → IfOk t (Builds i v page address) → IfOk t AllBytes
+    go (Ok b) k =
+        rw k.built
+        (bytes_take (laid_of k.choice address).length (laid_of k.choice address).bytes
+        (laid_bytes i.operand page address k.choice k.fits (of_ok (λ (c : Chosen). Addressed c.argument) (choose_small i v k.early page address) k.chosen)))
+    go (Err n) k = tt
 
-pub fresh_bytes : (r : Record) (address : ℕ) → Bytes (bytes_in (fresh_of r address))
-unfolding fresh_of fresh_from handed
-fresh_bytes r address =
-    let m = make_of r in
-    let b = build_of m.instruction r.values r.page address in
-    by_pick AllBytes (eqb m.refusal 0)
-    (by_pick AllBytes (eqb b.refusal 0) (build_bytes m.instruction r.values r.page address) tt)
-    tt
+fresh_all : (r : Record) (address : ℕ) → IfOk (fresh_of r address) AllBytes
+fresh_all r address = rw (fresh_built r address) (build_bytes (instruction_of r.operand (form_of r.operand r.values r.page)) r.values r.page address)
+
+-- beside a refusal there is none
+pub fresh_bytes : (r : Record) (address : ℕ) → Bytes (bytes_told (fresh_of r address))
+fresh_bytes r address = go (fresh_of r address) (fresh_all r address)
+  where
+    go : (t : Result Built Refusal) → IfOk t AllBytes → Bytes (bytes_told t)
+    go (Ok b) h = h
+    go (Err n) h = tt

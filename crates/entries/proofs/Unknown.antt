@@ -8,7 +8,8 @@ use lib.Dec.{ltb, leb}
 use lib.ListN.{get_or}
 use borrow.Author.Tests.{lt-leb}
 use Rattle.ground.specs.Choice.{pick}
-use Rattle.ground.specs.Refusals.{unknown}
+use Rattle.std.specs.Prelude.{Err, Some}
+use Rattle.ground.specs.declared.refusals.Refusal.TheVariants.{Unknown}
 use Rattle.values.specs.declared.pages.Page.{Page}
 use Rattle.values.specs.Pages.{is_page}
 use Rattle.values.specs.Widths.{bits_of, valid_of}
@@ -17,7 +18,7 @@ use Rattle.rows.specs.Lookup.{merged_of, placed, has_form_of, known_of}
 use Rattle.postbytes.specs.Registers.{unknown_register}
 use Rattle.instruction.specs.declared.Values.{Values}
 use Rattle.instruction.specs.Records.{recognised, sound}
-use Rattle.instruction.specs.Building.{make_of, operand_refusal, early_of, build_of, fresh_from, fresh_of}
+use Rattle.instruction.specs.Building.{make_of, operand_refusal, early_of, tried_of, refused_with, build_of, fresh_of}
 use Rattle.entries.specs.Entries.{nowhere, is_flag, is_page_in, flagged_in, told_in, operand_of, kept_flagged, kept_of, all_flagged, entry_of}
 
 -- no operation, mode, register, step or width is 255, and it is over 8 registers
@@ -42,11 +43,11 @@ pub unrecognised : (row : List ℕ) → recognised (told_in false row) ≡ false
 unfolding told_in recognised pick
 unrecognised row = rw no_operation
 
-pub bad_flag : (row : List ℕ) (address : ℕ) → all_flagged row ≡ false → (fresh_of (entry_of row) address).refusal ≡ unknown
-unfolding entry_of fresh_of fresh_from make_of pick
+pub bad_flag : (row : List ℕ) (address : ℕ) → all_flagged row ≡ false → fresh_of (entry_of row) address ≡ Err Unknown
+unfolding entry_of fresh_of make_of pick
 bad_flag row address e = rw (e, unrecognised row)
 
-pub bad_page : (row : List ℕ) (address : ℕ) → 256 < get_or row 15 0 → (fresh_of (entry_of row) address).refusal ≡ unknown
+pub bad_page : (row : List ℕ) (address : ℕ) → 256 < get_or row 15 0 → fresh_of (entry_of row) address ≡ Err Unknown
 unfolding all_flagged is_page_in is_page
 bad_page row address h = bad_flag row address (go (flagged_in row))
   where
@@ -54,11 +55,12 @@ bad_page row address h = bad_flag row address (go (flagged_in row))
     go true = rw (lt-leb (get_or row 15 0) 256 h)
     go false = refl
 
-pub bad_operand_flag : (row : List ℕ) → flagged_in row ≡ false → operand_refusal (operand_of row) ≡ unknown
+pub bad_operand_flag : (row : List ℕ) → flagged_in row ≡ false → operand_refusal (operand_of row) ≡ Some Unknown
 unfolding operand_of operand_refusal pick
 bad_operand_flag row e = rw (e, unrecognised row)
 
 pub bad_kept_flag :
-    (row : List ℕ) (v : Values) (page : Page) (address : ℕ) → kept_flagged row ≡ false → (build_of (kept_of row) v page address).refusal ≡ unknown
-unfolding kept_of build_of early_of sound pick
+    (row : List ℕ) (v : Values) (page : Page) (address : ℕ) → kept_flagged row ≡ false →
+    build_of (kept_of row) v page address ≡ Err (refused_with (kept_of row) Unknown)
+unfolding kept_of build_of tried_of early_of sound pick
 bad_kept_flag row v page address e = rw (e, unrecognised row)

@@ -6,7 +6,7 @@ ghost use Rattle.std.specs.Prelude.{◌≡◌, ◌≤◌, ltb, length};
 ghost use Rattle.ground.specs.Choice.{pick};
 ghost use Rattle.entries.specs.Entries.{nowhere, byte_in, is_flag, flag_in, is_page_in, page_in, flagged_in, cells_of, registers_in, told_in, operand_of, kept_flagged, kept_of, values_in, entry_of};
 
-use ground::tables::cell;
+use ground::tables::cell_or;
 use instruction::{Instruction, Operand, Record, Values};
 use values::Value;
 use values::pages::{Page, is_page};
@@ -15,43 +15,44 @@ use values::pages::{Page, is_page};
 const NOWHERE: u8 = 255;
 
 // A number of 8 bits; one that does not fit is unknown.
+#[tactic(auto, unfolding(ground::specs::Choice::pick))]
 fn narrow(n: u16) -> u8
     ensures { result ≡ pick (ltb n 256) n nowhere }
 {
-    if n < 256 { n as u8 } else { NOWHERE }
+    u8::try_from(n).unwrap_or(NOWHERE)
 }
 
 // The number of 8 bits in a cell.
 pub fn byte_in(row: &[u16], at: usize) -> u8
     ensures { result ≡ byte_in row.now at }
 {
-    narrow(cell(row, at))
+    narrow(cell_or(row, at, 0))
 }
 
 // A cell holds a flag: 0 or 1.
 pub fn is_flag(row: &[u16], at: usize) -> bool
     ensures { result ≡ is_flag row.now at }
 {
-    cell(row, at) <= 1
+    cell_or(row, at, 0) <= 1
 }
 
 pub fn flag_in(row: &[u16], at: usize) -> bool
     ensures { result ≡ flag_in row.now at }
 {
-    cell(row, at) == 1
+    cell_or(row, at, 0) == 1
 }
 
 // A cell holds a page: 0 to 255, or 256 for unknown.
 pub fn is_page_in(row: &[u16], at: usize) -> bool
     ensures { result ≡ is_page_in row.now at }
 {
-    is_page(cell(row, at))
+    is_page(cell_or(row, at, 0))
 }
 
 pub fn page_in(row: &[u16], at: usize) -> Page
     ensures { result ≡ page_in row.now at }
 {
-    Page::numbered(cell(row, at))
+    Page::numbered(cell_or(row, at, 0))
 }
 
 // The cells of a row that may be shorter than a record.
@@ -59,27 +60,27 @@ fn padded(row: &[u16]) -> [u16; 21]
     ensures { result ≡ cells_of row.now }
 {
     [
-        cell(row, 0),
-        cell(row, 1),
-        cell(row, 2),
-        cell(row, 3),
-        cell(row, 4),
-        cell(row, 5),
-        cell(row, 6),
-        cell(row, 7),
-        cell(row, 8),
-        cell(row, 9),
-        cell(row, 10),
-        cell(row, 11),
-        cell(row, 12),
-        cell(row, 13),
-        cell(row, 14),
-        cell(row, 15),
-        cell(row, 16),
-        cell(row, 17),
-        cell(row, 18),
-        cell(row, 19),
-        cell(row, 20),
+        cell_or(row, 0, 0),
+        cell_or(row, 1, 0),
+        cell_or(row, 2, 0),
+        cell_or(row, 3, 0),
+        cell_or(row, 4, 0),
+        cell_or(row, 5, 0),
+        cell_or(row, 6, 0),
+        cell_or(row, 7, 0),
+        cell_or(row, 8, 0),
+        cell_or(row, 9, 0),
+        cell_or(row, 10, 0),
+        cell_or(row, 11, 0),
+        cell_or(row, 12, 0),
+        cell_or(row, 13, 0),
+        cell_or(row, 14, 0),
+        cell_or(row, 15, 0),
+        cell_or(row, 16, 0),
+        cell_or(row, 17, 0),
+        cell_or(row, 18, 0),
+        cell_or(row, 19, 0),
+        cell_or(row, 20, 0),
     ]
 }
 

@@ -5,10 +5,13 @@ use mathlib.Core.Bool.{true, false}
 use mathlib.Core.List.{List, [], ◌∷◌, map}
 use Prim.Native.Nat.{ℕ, zero, suc}
 use lib.ListN.{replicate}
+use Rattle.std.specs.Prelude.{Result, Ok, Err}
 use Rattle.ground.specs.Choice.{pick}
-use Rattle.expressions.specs.declared.Answer.{Answer}
-use Rattle.expressions.specs.Finding.{first_of, joined, row_at, label_row, node_in, label_in, node_value, label_value, found, refused_by, deepest}
-use Rattle.expressions.specs.Answers.{value, narrow_of, value_of, answer_of, refused_answer, evaluation, node_answer, label_answer}
+use Rattle.ground.specs.declared.refusals.Refusal.{Refusal}
+use Rattle.ground.specs.declared.refusals.Refusal.TheVariants.{BadLabel, TooDeep, OverLimit}
+use Rattle.values.specs.declared.Value.{Value}
+use Rattle.expressions.specs.Finding.{row_at, label_row, node_in, label_in, node_value, label_value, found, deepest}
+use Rattle.expressions.specs.Answers.{value, narrow_of, value_of, evaluation, node_answer, label_answer}
 use Rattle.expressions.specs.Moving.{moved_to, moved_rows, moved_table}
 
 -- rows that negate the row before them, from row k on
@@ -28,26 +31,26 @@ definitions (suc n) k = 2 ∷ 0 ∷ k ∷ definitions n (suc k)
 
 -- "depth 32": 31 negations and a constant are 32 nodes, one more is 33
 over_a_constant :
-    map (λ (i : ℕ). node_value deepest (0 ∷ 5 ∷ 0 ∷ negations 32 0) [] i 0) (31 ∷ 32 ∷ []) ≡ found 65531 false ∷ refused_by 11 ∷ []
-unfolding node_value node_in joined first_of row_at pick negations
+    map (λ (i : ℕ). node_value deepest (0 ∷ 5 ∷ 0 ∷ negations 32 0) [] i 0) (31 ∷ 32 ∷ []) ≡ found 65531 false ∷ Err TooDeep ∷ []
+unfolding node_value node_in row_at pick negations
 over_a_constant = refl
 
 -- 30 negations, the node that asks the label, and the step to it are 32
 over_an_address :
     map (λ (i : ℕ). node_value deepest (1 ∷ 0 ∷ 0 ∷ negations 31 0) (1 ∷ 256 ∷ 0 ∷ []) i 0) (30 ∷ 31 ∷ [])
-    ≡ found 256 true ∷ refused_by 11 ∷ []
-unfolding node_value node_in label_in label_row joined first_of row_at pick negations
+    ≡ found 256 true ∷ Err TooDeep ∷ []
+unfolding node_value node_in label_in label_row row_at pick negations
 over_an_address = refl
 
 -- ten labels, each a node and two steps, and a constant are 31; eleven are 34
 through_labels :
-    map (λ (i : ℕ). node_value deepest (0 ∷ 5 ∷ 0 ∷ askers 11 0) (definitions 11 0) i 0) (10 ∷ 11 ∷ []) ≡ found 5 false ∷ refused_by 11 ∷ []
+    map (λ (i : ℕ). node_value deepest (0 ∷ 5 ∷ 0 ∷ askers 11 0) (definitions 11 0) i 0) (10 ∷ 11 ∷ []) ≡ found 5 false ∷ Err TooDeep ∷ []
 unfolding node_value node_in label_in label_row row_at pick askers definitions
 through_labels = refl
 
 -- a label asked from outside counts nothing itself: eleven are 32, twelve are 35
 from_outside :
-    map (λ (k : ℕ). label_value deepest (0 ∷ 5 ∷ 0 ∷ askers 11 0) (definitions 12 0) k) (10 ∷ 11 ∷ []) ≡ found 5 false ∷ refused_by 11 ∷ []
+    map (λ (k : ℕ). label_value deepest (0 ∷ 5 ∷ 0 ∷ askers 11 0) (definitions 12 0) k) (10 ∷ 11 ∷ []) ≡ found 5 false ∷ Err TooDeep ∷ []
 unfolding node_value node_in label_in label_row row_at pick askers definitions
 from_outside = refl
 
@@ -71,39 +74,39 @@ labels =
     -- 3: not all there
     1 ∷ 256 ∷ []
 
-answer : ℕ → ℕ → Answer
-answer n w = record { refusal = 0; value = value n w }
+answer : ℕ → ℕ → Result Value Refusal
+answer n w = Ok (value n w)
 
 -- 200 is 8 bits wide unsigned and 16 signed; * - * is 16; -1 is 16 unsigned, and FF in 8 signed; through a label too
 unsigned_values :
     map (λ (i : ℕ). node_answer nodes labels i 4096 false) (0 ∷ 2 ∷ 3 ∷ 5 ∷ [])
     ≡ answer 200 8 ∷ answer 0 16 ∷ answer 65535 16 ∷ answer 65535 16 ∷ []
-unfolding node_answer evaluation answer_of value_of narrow_of node_value node_in label_in label_row joined first_of row_at pick nodes labels answer
+unfolding node_answer evaluation value_of narrow_of node_value node_in label_in label_row row_at pick nodes labels answer
 unsigned_values = refl
 
 signed_values :
     map (λ (i : ℕ). node_answer nodes labels i 4096 true) (0 ∷ 2 ∷ 3 ∷ 5 ∷ [])
     ≡ answer 200 16 ∷ answer 0 16 ∷ answer 255 8 ∷ answer 255 8 ∷ []
-unfolding node_answer evaluation answer_of value_of narrow_of node_value node_in label_in label_row joined first_of row_at pick nodes labels answer
+unfolding node_answer evaluation value_of narrow_of node_value node_in label_in label_row row_at pick nodes labels answer
 signed_values = refl
 
 -- an undefined label is 10, a circle 11, both in one sum 11, a label above 511 is 10, a node of no kind or not there 11
 refusals :
-    map (λ (i : ℕ). (node_answer nodes labels i 4096 false).refusal) (6 ∷ 7 ∷ 8 ∷ 9 ∷ 10 ∷ 11 ∷ [])
-    ≡ 10 ∷ 11 ∷ 11 ∷ 10 ∷ 11 ∷ 11 ∷ []
-unfolding node_answer evaluation answer_of value_of narrow_of node_value node_in label_in label_row joined first_of row_at pick nodes labels
+    map (λ (i : ℕ). node_answer nodes labels i 4096 false) (6 ∷ 7 ∷ 8 ∷ 9 ∷ 10 ∷ 11 ∷ [])
+    ≡ Err BadLabel ∷ Err TooDeep ∷ Err TooDeep ∷ Err BadLabel ∷ Err TooDeep ∷ Err TooDeep ∷ []
+unfolding node_answer evaluation value_of narrow_of node_value node_in label_in label_row row_at pick nodes labels
 refusals = refl
 
 -- a label's own value; the location in it is the label's own address; a row that is not wholly there is undefined
 label_values :
     map (λ (k : ℕ). label_answer nodes labels k) (0 ∷ 1 ∷ 2 ∷ 3 ∷ 512 ∷ [])
-    ≡ answer 255 8 ∷ refused_answer 11 ∷ answer 300 16 ∷ refused_answer 10 ∷ refused_answer 10 ∷ []
-unfolding label_answer answer_of value_of narrow_of node_value label_value node_in label_in label_row joined first_of row_at pick nodes labels answer
+    ≡ answer 255 8 ∷ Err TooDeep ∷ answer 300 16 ∷ Err BadLabel ∷ Err BadLabel ∷ []
+unfolding label_answer value_of narrow_of node_value label_value node_in label_in label_row row_at pick nodes labels answer
 label_values = refl
 
 -- 1,024 nodes are allowed, 1,025 are 17 before all else
-limit : map (λ (n : ℕ). node_answer (replicate n 0) [] 0 0 false) (3074 ∷ 3075 ∷ []) ≡ answer 0 8 ∷ refused_answer 17 ∷ []
-unfolding node_answer evaluation answer_of value_of narrow_of node_value node_in row_at pick answer
+limit : map (λ (n : ℕ). node_answer (replicate n 0) [] 0 0 false) (3074 ∷ 3075 ∷ []) ≡ answer 0 8 ∷ Err OverLimit ∷ []
+unfolding node_answer evaluation value_of narrow_of node_value node_in row_at pick answer
 limit = refl
 
 -- both ends are moved, an undefined label and what lies outside are not, the own address of an expression label is, modulo 65536

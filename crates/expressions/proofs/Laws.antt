@@ -1,7 +1,7 @@
 -- Laws of the evaluation: what one step of `node_value` and `label_value` is, in the code's terms, where what is left is a number less one.
 -- Assumes nothing.
 use mathlib.Core.Path.{◌≡◌, refl}
-use mathlib.Core.Bool.{false}
+use mathlib.Core.Bool.{true, false, true≢false, false≢true}
 use mathlib.Core.List.{List}
 use Prim.Native.Nat.{ℕ, zero, suc, ◌-◌, ◌≤◌, ◌<◌}
 use native.Mathlib.Numerals.{sub-one}
@@ -10,17 +10,19 @@ use lib.Dec.{eqb}
 use borrow.Author.Tests.{eq-eqb, ne_eqb}
 use Rattle.ground.specs.Choice.{pick}
 use Rattle.ground.specs.Words.{minus}
-use Rattle.ground.specs.Refusals.{too_deep}
+use Rattle.std.specs.Prelude.{Result, Ok, Err}
+use Rattle.ground.specs.declared.refusals.Refusal.{Refusal}
+use Rattle.ground.specs.declared.refusals.Refusal.TheVariants.{TooDeep}
 use Rattle.expressions.specs.declared.finding.Found.{Found}
 use Rattle.expressions.specs.declared.finding.Row.{Row}
-use Rattle.expressions.specs.Finding.{Kind, unknown, kind_of, State, undefined, state_of, first_of, joined, refused_by, node_of, label_of, node_in, label_in, node_row, label_row, node_value, label_value}
-use Rattle.expressions.specs.Steps.{operation_of}
+use Rattle.expressions.specs.Finding.{Kind, unknown, kind_of, State, undefined, state_of, found, joined, node_of, label_of, node_in, label_in, node_row, label_row, node_value, label_value}
+use Rattle.expressions.specs.Steps.{operation_of, is_deep}
 
 -- what a node's label is worth, where e is left after the node: the step to the label counts one
-pub stepped : ℕ → List ℕ → List ℕ → ℕ → Found
-stepped e ns ls k = pick (eqb e 0) (refused_by too_deep) (label_value (e - 1) ns ls k)
+pub stepped : ℕ → List ℕ → List ℕ → ℕ → Result Found Refusal
+stepped e ns ls k = pick (eqb e 0) (Err TooDeep) (label_value (e - 1) ns ls k)
 
-pub stepped_none : (e : ℕ) (ns ls : List ℕ) (k : ℕ) → e ≡ 0 → stepped e ns ls k ≡ refused_by too_deep
+pub stepped_none : (e : ℕ) (ns ls : List ℕ) (k : ℕ) → e ≡ 0 → stepped e ns ls k ≡ Err TooDeep
 unfolding stepped pick
 stepped_none e ns ls k h = rw (eq-eqb _ _ h)
 
@@ -28,7 +30,7 @@ pub stepped_more : (e : ℕ) (ns ls : List ℕ) (k : ℕ) → (e ≡ 0 → ⊥) 
 unfolding stepped pick
 stepped_more e ns ls k f = rw (ne_eqb _ _ f)
 
-pub node_none : (d : ℕ) (ns ls : List ℕ) (i here : ℕ) → d ≡ 0 → node_value d ns ls i here ≡ refused_by too_deep
+pub node_none : (d : ℕ) (ns ls : List ℕ) (i here : ℕ) → d ≡ 0 → node_value d ns ls i here ≡ Err TooDeep
 unfolding node_value
 node_none d ns ls i here e = rw e
 
@@ -79,15 +81,18 @@ kind_above (suc (suc (suc (suc (suc zero))))) h = absurd (omega arith)
 kind_above (suc (suc (suc (suc (suc (suc zero)))))) h = absurd (omega arith)
 kind_above (suc (suc (suc (suc (suc (suc (suc k))))))) h = refl
 
--- a negation is what `combined` makes of 0 and its part, a node of two parts what it makes of both
-pub kind_negation : (k : ℕ) (a b : Found) → k ≡ 3 → joined (operation_of k) a b ≡ joined minus a b
-unfolding joined operation_of pick
-kind_negation k a b e = rw e
+-- a negation is 0 less its part, if the part is a number
+pub negated : {part : Result Found Refusal} {p : Found} {n : ℕ} → part ≡ Ok p → n ≡ minus 0 p.number → Ok (record { number = n; wide = p.wide }) ≡ joined minus (found 0 false) part
+negated e m = rw (e, m)
 
+pub negated_refused : {part : Result Found Refusal} {r : Refusal} → part ≡ Err r → Err r ≡ joined minus (found 0 false) part
+negated_refused e = rw e
+
+-- a node of two parts is what `combined` makes of both
 pub kind_binary :
-    (k : ℕ) (node lab : ℕ → Found) (here l r : ℕ) → (k ≡ 0 → ⊥) → (k ≡ 1 → ⊥) → (k ≡ 2 → ⊥) → (k ≡ 3 → ⊥) → k < 7 →
+    (k : ℕ) (node lab : ℕ → Result Found Refusal) (here l r : ℕ) → (k ≡ 0 → ⊥) → (k ≡ 1 → ⊥) → (k ≡ 2 → ⊥) → (k ≡ 3 → ⊥) → k < 7 →
     node_of node lab here (kind_of k) l r ≡ joined (operation_of k) (node l) (node r)
-unfolding joined operation_of pick
+unfolding operation_of pick
 kind_binary zero node lab here l r f₀ f₁ f₂ f₃ h = absurd (f₀ refl)
 kind_binary (suc zero) node lab here l r f₀ f₁ f₂ f₃ h = absurd (f₁ refl)
 kind_binary (suc (suc zero)) node lab here l r f₀ f₁ f₂ f₃ h = absurd (f₂ refl)
@@ -98,9 +103,22 @@ kind_binary (suc (suc (suc (suc (suc (suc zero)))))) node lab here l r f₀ f₁
 kind_binary (suc (suc (suc (suc (suc (suc (suc k))))))) node lab here l r f₀ f₁ f₂ f₃ h = absurd (omega arith)
 
 -- 11 in either part is the whole's, so the second need not be asked where the first gave it
-pub joined_left : (operation : ℕ → ℕ → ℕ) (a b : Found) → a.refusal ≡ too_deep → joined operation a b ≡ refused_by too_deep
-unfolding joined first_of pick
-joined_left operation a b e = rw (eq-eqb _ _ e)
+pub joined_left : (operation : ℕ → ℕ → ℕ) (a b : Result Found Refusal) → is_deep a ≡ true → joined operation a b ≡ a
+joined_left operation (Err TooDeep) (Ok b) e = refl
+joined_left operation (Err TooDeep) (Err TooDeep) e = refl
+joined_left operation (Err TooDeep) (Err q) e = refl
+joined_left operation a b e = absurd (false≢true e)
 
-pub joined_alike : (operation : ℕ → ℕ → ℕ) {a a' b b' : Found} → a ≡ a' → b ≡ b' → joined operation a b ≡ joined operation a' b'
+pub joined_right : (operation : ℕ → ℕ → ℕ) (a b : Result Found Refusal) → is_deep b ≡ true → joined operation a b ≡ b
+joined_right operation (Ok a) (Err TooDeep) e = refl
+joined_right operation (Err r) (Err TooDeep) e = refl
+joined_right operation a b e = absurd (false≢true e)
+
+-- another refusal of the first is the whole's, where the second is not 11
+pub joined_refused : (operation : ℕ → ℕ → ℕ) (r : Refusal) (b : Result Found Refusal) → is_deep b ≡ false → joined operation (Err r) b ≡ Err r
+joined_refused operation r (Ok b) e = refl
+joined_refused operation r (Err TooDeep) e = absurd (true≢false e)
+joined_refused operation r (Err q) e = refl
+
+pub joined_alike : (operation : ℕ → ℕ → ℕ) {a a' b b' : Result Found Refusal} → a ≡ a' → b ≡ b' → joined operation a b ≡ joined operation a' b'
 joined_alike operation p q = cc

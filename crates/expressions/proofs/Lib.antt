@@ -1,4 +1,3 @@
-pub mod Product
 pub mod Laws
 pub mod Moves
 pub mod Moved

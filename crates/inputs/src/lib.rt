@@ -15,6 +15,7 @@ pub fn read_full(input: &mut impl Read, buf: &mut [u8]) -> io::Result<usize>
     ensures kept { length buf.new ≡ length buf.old }
 {
     let mut done: usize = 0;
+    // No iterator: the next place hangs on how much was read.
     while done < buf.len() {
         let more = input.read(&mut buf[done..])?;
         if more == 0 {

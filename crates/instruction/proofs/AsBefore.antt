@@ -7,7 +7,9 @@ use Prim.Native.Nat.{ℕ}
 use native.Mathlib.Omega.{arith}
 use lib.Dec.{eqb, ltb}
 use borrow.Author.Tests.{ltb-true, ltb-false, le-ltb, lt-ltb}
+use Rattle.std.specs.Prelude.{Result, Ok, Err}
 use Rattle.ground.specs.Choice.{pick}
+use Rattle.ground.specs.declared.refusals.Refusal.{Refusal}
 use Rattle.values.specs.declared.pages.Page.{Page}
 use Rattle.values.specs.declared.pages.Page.TheVariants.{Unknown, Known}
 use Rattle.values.specs.Pages.{reaches}
@@ -18,7 +20,7 @@ use Rattle.instruction.specs.declared.Record.{Record}
 use Rattle.instruction.specs.declared.Instruction.{Instruction}
 use Rattle.instruction.specs.Forms.{becomes_direct, extended_form, form_of}
 use Rattle.instruction.specs.Choosing.{forced_wide, stays_direct, directly_of, anew_of, address_of, choose_of}
-use Rattle.instruction.specs.Building.{no_values, operand_refusal, make_of, build_of, fresh_from, fresh_of}
+use Rattle.instruction.specs.Building.{no_values, operand_refusal, make_of, tried_of, build_of, fresh_from, fresh_of}
 use Rattle.instruction.proofs.Was as was
 
 -- clean was page 0, dirty the unknown page
@@ -71,10 +73,18 @@ pub make_as : (o : Operand) (v : Values) (dirty : Bool) → make_of (record_of o
 unfolding make_of was.make_of
 make_as o v dirty = rw (form_as o v dirty)
 
+pub tried_as : (i : Instruction) (v : Values) (dirty : Bool) (address : ℕ) → tried_of i v (page_of dirty) address ≡ was.tried_of i v dirty address
+unfolding tried_of was.tried_of
+tried_as i v dirty address = rw (choose_as i v dirty address)
+
 pub build_as : (i : Instruction) (v : Values) (dirty : Bool) (address : ℕ) → build_of i v (page_of dirty) address ≡ was.build_of i v dirty address
 unfolding build_of was.build_of
-build_as i v dirty address = rw (choose_as i v dirty address)
+build_as i v dirty address = rw (tried_as i v dirty address)
 
 pub fresh_as : (o : Operand) (v : Values) (dirty : Bool) (address : ℕ) → fresh_of (record_of o dirty v) address ≡ was.fresh_of o dirty v address
-unfolding fresh_of fresh_from was.fresh_of was.fresh_from
-fresh_as o v dirty address = rw (make_as o v dirty, build_as (was.make_of o dirty v).instruction v dirty address)
+unfolding fresh_of was.fresh_of
+fresh_as o v dirty address = rw (make_as o v dirty) (from (was.make_of o dirty v))
+  where
+    from : (m : Result Instruction Refusal) → fresh_from m (record_of o dirty v) address ≡ was.fresh_from m dirty v address
+    from (Ok i) = tried_as i v dirty address
+    from (Err n) = refl

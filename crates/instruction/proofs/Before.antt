@@ -1,11 +1,14 @@
 -- 1 and 2 do not hang on the values: a value chooses between Direct and Extended alone, and a row has both or none. So what is told of an operand
 -- before any value is evaluated is what making it with lawful values refuses.
 -- Assumes nothing.
-use mathlib.Core.Path.{◌≡◌, refl, sym, ap, ◌∙◌}
-use mathlib.Core.Bool.{Bool, true, false, not, ◌&&◌, ◌||◌, false≢true}
+use mathlib.Core.Path.{◌≡◌, refl, sym, ap}
+use mathlib.Core.Bool.{Bool, true, false, not, ◌&&◌, ◌||◌}
 use Prim.Native.Nat.{ℕ}
 use lib.Dec.{eqb}
+use Rattle.std.specs.Prelude.{Result, Ok, Err, Option, Some, None}
 use Rattle.ground.specs.Choice.{pick}
+use Rattle.ground.specs.declared.refusals.Refusal.{Refusal}
+use Rattle.ground.specs.declared.refusals.Refusal.TheVariants as refusal
 use Rattle.values.specs.declared.pages.Page.{Page}
 use Rattle.values.specs.declared.pages.Page.TheVariants.{Unknown}
 use Rattle.rows.specs.Forms.{direct, extended, relative}
@@ -13,11 +16,11 @@ use Rattle.rows.specs.Lookup.{has_form_of}
 use Rattle.instruction.specs.declared.Operand.{Operand}
 use Rattle.instruction.specs.declared.Values.{Values}
 use Rattle.instruction.specs.declared.Record.{Record}
-use Rattle.instruction.specs.declared.Made.{Made}
+use Rattle.instruction.specs.declared.Instruction.{Instruction}
 use Rattle.instruction.specs.Names.{mode_register, mode_extended}
 use Rattle.instruction.specs.Records.{recognised, lawful}
 use Rattle.instruction.specs.Forms.{becomes_direct, extended_form, form_of, strays, lacks}
-use Rattle.instruction.specs.Building.{no_values, unmade, made_as, make_of, operand_refusal}
+use Rattle.instruction.specs.Building.{no_values, instruction_of, made_as, make_of, operand_refusal}
 use Rattle.instruction.proofs.Rows.{direct_extended}
 
 -- what a test says of the parts of a choice it says of the choice
@@ -47,22 +50,21 @@ lacks_same o v w page other =
     (of_either (lacks o) (becomes_direct o v page) (becomes_direct o w other) direct extended (lacks_alike o))))
     refl)
 
--- with lawful values, making refuses as the operand alone does
-pub make_refusal : (r : Record) → lawful r.values ≡ true → (make_of r).refusal ≡ operand_refusal r.operand
-unfolding make_of made_as operand_refusal pick
-make_refusal r h = from (recognised r.operand) (lawful r.values) h
-  where
-    number : (t : Bool) (m : Made) → m.refusal ≡ 0 → ◌≡◌ {A = ℕ} (pick t (unmade 2) m).refusal (pick t 2 0)
-    number true m e = refl
-    number false m e = e
+abbrev pub refusal_in : Result Instruction Refusal → Option Refusal
+refusal_in (Ok i) = None
+refusal_in (Err n) = Some n
 
+-- with lawful values, making refuses as the operand alone does
+pub make_refusal : (r : Record) → lawful r.values ≡ true → refusal_in (make_of r) ≡ operand_refusal r.operand
+unfolding make_of made_as operand_refusal pick
+make_refusal r h =
+    rw (h, lacks_same r.operand r.values no_values r.page Unknown)
+    (from (recognised r.operand) (lacks r.operand (form_of r.operand no_values Unknown)) (instruction_of r.operand (form_of r.operand r.values r.page)))
+  where
     from :
-        (k l : Bool) →
-        l ≡ true →
-        (pick (k && l) (made_as r.operand (form_of r.operand r.values r.page)) (unmade 1)).refusal
-        ≡ pick k (pick (lacks r.operand (form_of r.operand no_values Unknown)) 2 0) 1
-    from k false e = absurd (false≢true e)
-    from false true e = refl
-    from true true e =
-        number (lacks r.operand (form_of r.operand r.values r.page)) _ refl
-        ∙ ap (λ (t : Bool). pick {A = ℕ} t 2 0) (lacks_same r.operand r.values no_values r.page Unknown)
+        (k t : Bool) (i : Instruction) →
+        refusal_in (pick (k && true) (pick t (Err refusal.NoSuchMode) (Ok i)) (Err refusal.Unknown))
+        ≡ pick k (pick t (Some refusal.NoSuchMode) None) (Some refusal.Unknown)
+    from false t i = refl
+    from true true i = refl
+    from true false i = refl

@@ -4,9 +4,11 @@ use mathlib.Core.Path.{◌≡◌, refl}
 use mathlib.Core.Bool.{true, false}
 use mathlib.Core.List.{List, [], ◌∷◌, map}
 use Prim.Native.Nat.{ℕ}
-use lib.Dec.{eqb}
 use lib.ListN.{take}
+use Rattle.std.specs.Prelude.{Result, Ok, Err}
 use Rattle.ground.specs.Choice.{pick}
+use Rattle.ground.specs.declared.refusals.Refusal.{Refusal}
+use Rattle.ground.specs.Refusals.{number_of}
 use Rattle.values.specs.declared.pages.Page.{Page}
 use Rattle.values.specs.declared.pages.Page.TheVariants.{Unknown, Known}
 use Rattle.values.specs.Widths.{bits_of, extended, valid_of, sign_extended_of}
@@ -22,12 +24,14 @@ use Rattle.instruction.specs.declared.Operand.{Operand}
 use Rattle.instruction.specs.declared.Values.{Values}
 use Rattle.instruction.specs.declared.Record.{Record}
 use Rattle.instruction.specs.declared.Built.{Built}
+use Rattle.instruction.specs.declared.Refused.{Refused}
 use Rattle.instruction.specs.Names.{mode_register, mode_offset, mode_pc_relative, mode_inc_dec, mode_extended, mode_direct, mode_immediate}
 use Rattle.instruction.specs.Records.{stepped, recognised, narrower, agreeing, lawful, sound}
 use Rattle.instruction.specs.Forms.{becomes_direct, extended_form, register_form, form_of, strays, lacks, needs_value}
 use Rattle.instruction.specs.Choosing.{immediate_of, forced_wide, leaves_direct, stays_direct, directly_of, anew_as, anew_of, address_of, long_branch, branch_of, offset_value, offset_index, target_index, step_index, index_of, is_pair, own_stack, listed_of, registers_of, choose_of}
 use Rattle.instruction.specs.Bytes.{number_bytes, operand_bytes, code_size, behind_code, laid_at, laid_of}
-use Rattle.instruction.specs.Building.{instruction_of, made_as, make_of, early_of, dirties_of, accepted_of, finished_of, build_of, handed, fresh_from, fresh_of}
+use Rattle.instruction.specs.Building.{instruction_of, made_as, make_of, early_of, dirties_of, accepted_of, tried_of, build_of, fresh_of}
+use Rattle.instruction.specs.Sequences.{instruction_in, told_of}
 
 -- what a build says: its bytes, with the page left unknown or not, or its refusal
 pub data Answer : Type 0 where
@@ -35,11 +39,9 @@ pub data Answer : Type 0 where
   forgetting : List ℕ → Answer
   refused : ℕ → Answer
 
-abbrev said : Built → Answer
-said b =
-    pick (eqb b.refusal 0)
-    (pick b.dirties (forgetting (take b.length b.bytes)) (bytes (take b.length b.bytes)))
-    (refused b.refusal)
+abbrev said : Result Built Refusal → Answer
+said (Ok b) = pick b.dirties (forgetting (take b.length b.bytes)) (bytes (take b.length b.bytes))
+said (Err n) = refused (number_of n)
 
 -- a value with its unsigned and its signed evaluation, each of a width
 abbrev valued : ℕ → ℕ → ℕ → ℕ → Values
@@ -121,13 +123,17 @@ pub data Question : Type 0 where
 abbrev record_of_lem : Page → Operand → Values → Record
 record_of_lem page o v = record { operand = o; page = page; values = v }
 
-abbrev last : Page → Built → List Values → Built
+abbrev last : Page → Result Built Refused → List Values → Result Built Refused
 last page b [] = b
-last page b (v ∷ vs) = last page (build_of b.instruction v page 0x0100) vs
+last page b (v ∷ vs) = last page (build_of (instruction_in b) v page 0x0100) vs
+
+abbrev afterwards : Page → Result Built Refusal → List Values → Answer
+afterwards page (Ok b) vs = said (told_of (last page (Ok b) vs))
+afterwards page (Err n) vs = refused (number_of n)
 
 abbrev ask : Question → Answer
 ask (fresh page o v) = said (fresh_of (record_of_lem page o v) 0x0100)
-ask (again page o v vs) = said (last page (fresh_of (record_of_lem page o v) 0x0100) vs)
+ask (again page o v vs) = afterwards page (fresh_of (record_of_lem page o v) 0x0100) vs
 
 -- operations by number (docs/ROWS.md)
 abbrev lda : ℕ
@@ -186,7 +192,7 @@ answered =
     []
 
 pub cases : map ask asked ≡ answered
-unfolding pick bits_of extended valid_of sign_extended_of table_of page0 page10 page11 merged_of placed has_form_of known_of code_of is_wide is_long number_at number_size_of long_from long_of any_unknown strange_list among marked sized_of constant_of offset_of relative_of stepped recognised narrower agreeing lawful sound becomes_direct extended_form register_form form_of strays lacks needs_value directly_of anew_as anew_of address_of long_branch branch_of offset_value offset_index target_index step_index index_of choose_of number_bytes operand_bytes code_size behind_code laid_at laid_of instruction_of made_as make_of early_of dirties_of accepted_of finished_of build_of handed fresh_from fresh_of
+unfolding pick bits_of extended valid_of sign_extended_of table_of page0 page10 page11 merged_of placed has_form_of known_of code_of is_wide is_long number_at number_size_of long_from long_of any_unknown strange_list among marked sized_of constant_of offset_of relative_of stepped recognised narrower agreeing lawful sound becomes_direct extended_form register_form form_of strays lacks needs_value directly_of anew_as anew_of address_of long_branch branch_of offset_value offset_index target_index step_index index_of choose_of number_bytes operand_bytes code_size behind_code laid_at laid_of instruction_of made_as make_of early_of dirties_of accepted_of tried_of build_of fresh_of
 cases = refl
 
 -- a long branch; a branch that stays long once it was made long, and one that may not be made long
@@ -233,7 +239,7 @@ pub further :
     refused 6 ∷
     bytes (0x8E ∷ 0x00 ∷ 0xFF ∷ []) ∷
     []
-unfolding pick bits_of valid_of table_of page0 page10 page11 merged_of placed has_form_of known_of code_of is_wide is_long number_at number_size_of long_from long_of any_unknown strange_list among size_of push_of paired_of written.code_of stepped recognised narrower agreeing lawful sound becomes_direct extended_form register_form form_of strays lacks needs_value immediate_of forced_wide leaves_direct stays_direct directly_of anew_as anew_of address_of long_branch branch_of is_pair own_stack listed_of registers_of choose_of number_bytes operand_bytes code_size behind_code laid_at laid_of instruction_of made_as make_of early_of dirties_of accepted_of finished_of build_of handed fresh_from fresh_of
+unfolding pick bits_of valid_of table_of page0 page10 page11 merged_of placed has_form_of known_of code_of is_wide is_long number_at number_size_of long_from long_of any_unknown strange_list among size_of push_of paired_of written.code_of stepped recognised narrower agreeing lawful sound becomes_direct extended_form register_form form_of strays lacks needs_value immediate_of forced_wide leaves_direct stays_direct directly_of anew_as anew_of address_of long_branch branch_of is_pair own_stack listed_of registers_of choose_of number_bytes operand_bytes code_size behind_code laid_at laid_of instruction_of made_as make_of early_of dirties_of accepted_of tried_of build_of fresh_of
 further = refl
 
 -- 02 e. `LDA $2005` under page 20, under 0 and under unknown; `LDA $05` under 20; `LDA >$2005` forced Extended under 20
@@ -277,5 +283,5 @@ pub paged :
     forgetting (0x1E ∷ 0xB8 ∷ []) ∷
     bytes (0x1F ∷ 0xB8 ∷ []) ∷
     []
-unfolding pick bits_of valid_of table_of page0 page10 page11 merged_of placed has_form_of known_of code_of is_wide is_long number_at number_size_of long_from long_of any_unknown strange_list among size_of push_of paired_of written.code_of stepped recognised narrower agreeing lawful sound becomes_direct extended_form register_form form_of strays lacks needs_value immediate_of forced_wide leaves_direct stays_direct directly_of anew_as anew_of address_of long_branch branch_of is_pair own_stack listed_of registers_of choose_of number_bytes operand_bytes code_size behind_code laid_at laid_of instruction_of made_as make_of early_of dirties_of accepted_of finished_of build_of handed fresh_from fresh_of
+unfolding pick bits_of valid_of table_of page0 page10 page11 merged_of placed has_form_of known_of code_of is_wide is_long number_at number_size_of long_from long_of any_unknown strange_list among size_of push_of paired_of written.code_of stepped recognised narrower agreeing lawful sound becomes_direct extended_form register_form form_of strays lacks needs_value immediate_of forced_wide leaves_direct stays_direct directly_of anew_as anew_of address_of long_branch branch_of is_pair own_stack listed_of registers_of choose_of number_bytes operand_bytes code_size behind_code laid_at laid_of instruction_of made_as make_of early_of dirties_of accepted_of tried_of build_of fresh_of
 paged = refl

@@ -2,18 +2,21 @@
 -- and a short branch is near. Each of these is a test that the choice made, or what 1, 2 and 3 left.
 -- Assumes nothing.
 use mathlib.Core.Path.{◌≡◌, refl, sym, subst, ◌∙◌}
-use mathlib.Core.Bool.{Bool, true, false, not, ◌&&◌, ◌||◌}
+use mathlib.Core.Bool.{Bool, true, false, false≢true, not, ◌&&◌, ◌||◌}
 use mathlib.Core.Logic.{◌⊎◌, inl, inr}
 use Prim.Native.Nat.{ℕ, ◌^◌, ◌<◌, ◌≤◌}
 use native.Mathlib.Omega.{arith}
 use lib.Dec.{eqb, ltb, leb}
 use borrow.Author.Tests.{eqb-true, eqb-false, eq-eqb, ltb-true, ltb-false, lt-leb, leb-true, le-ltb, leb-false, not-false}
+use Rattle.std.specs.Prelude.{Result, Ok, Err, IsOk, IfOk, ⊤}
+use Rattle.std.specs.Result.{result_unwrap_or}
 use Rattle.ground.specs.Choice.{pick}
+use Rattle.ground.specs.declared.refusals.Refusal.{Refusal}
 use Rattle.ground.specs.Words.{plus, minus}
 use Rattle.ground.proofs.Choices.{by_test, by_pick}
 use Rattle.ground.proofs.Tests.{both_first, both_second, neither_left, neither_right}
 use Rattle.values.specs.declared.Value.{Value}
-use Rattle.values.specs.Widths.{bits_of, valid_of, sign_extended_of}
+use Rattle.values.specs.Widths.{bits_of, valid_of}
 use Rattle.values.proofs.Laws.{valid_fits}
 use Rattle.values.specs.declared.pages.Page.{Page}
 use Rattle.values.specs.Pages.{reaches}
@@ -21,12 +24,11 @@ use Rattle.rows.specs.Forms.{inherent, immediate, direct, indexed, extended, rel
 use Rattle.rows.specs.Lookup.{merged_of, has_form_of, known_of}
 use Rattle.rows.specs.Sizes.{number_size_of, long_of}
 use Rattle.rows.proofs.Lengths.{number_has_form, long_of_short, long_of_other}
-use Rattle.postbytes.specs.declared.Encoded.{Encoded}
 use Rattle.postbytes.specs.declared.Index.{Index}
 use Rattle.postbytes.specs.declared.Index.TheVariants.{Offset, Counter, Accumulator, Step, Address}
 use Rattle.postbytes.specs.Registers.{PC, not_indexing, not_accumulator}
 use Rattle.postbytes.specs.Lists.{strange_list}
-use Rattle.postbytes.specs.Writing.{five_bits, sized_of, constant_of, offset_of, counter_of, accumulator_of, step_of, encode_of, near_of}
+use Rattle.postbytes.specs.Writing.{offset_of, counter_of, accumulator_of, step_of, encode_of, near_of}
 use Rattle.postbytes.proofs.Tests.{indexing}
 use Rattle.instruction.specs.declared.Operand.{Operand}
 use Rattle.instruction.specs.declared.Values.{Values}
@@ -38,8 +40,8 @@ use Rattle.instruction.specs.declared.Argument.TheVariants.{Nothing, Number, Tar
 use Rattle.instruction.specs.Names.{mode_register, mode_offset, mode_pc_relative, mode_inc_dec, mode_extended, mode_direct, mode_immediate}
 use Rattle.instruction.specs.Records.{stepped, recognised, agreeing, lawful, sound}
 use Rattle.instruction.specs.Forms.{becomes_direct, strays, lacks, needs_value}
-use Rattle.instruction.specs.Choosing.{settled, inherent_of, immediate_of, forced_wide, leaves_direct, stays_direct, directly_of, anew_as, anew_of, address_of, long_branch, branch_of, register_at, offset_value, accumulator_index, offset_index, target_index, step_index, address_index, index_of, listed_of, registers_of, choose_of}
-use Rattle.instruction.specs.Building.{early_of, accepted_of, finished_of, build_of}
+use Rattle.instruction.specs.Choosing.{settled, inherent_of, immediate_of, forced_wide, leaves_direct, stays_direct, directly_of, anew_as, anew_of, address_of, long_branch, branch_of, register_at, offset_value, accumulator_index, offset_index, target_index, step_index, address_index, index_of, listed_of, registers_of, choose_of, list_settled}
+use Rattle.instruction.specs.Building.{early_of, accepted_of, finished_of, after, tried_of}
 use Rattle.instruction.proofs.Tests.{not_second, implied, or_left, or_right}
 use Rattle.instruction.proofs.Choice.{last_form}
 use Rattle.instruction.proofs.Rows.{direct_extended, branch_size, operation_small, long_merged}
@@ -60,7 +62,7 @@ pub record TargetFits (o form address t : ℕ) : Type 0 where
 
 pub record IndexFits (form : ℕ) (index : Index) : Type 0 where
   pub formed : form ≡ indexed
-  pub accepted : (encode_of index).refusal ≡ 0
+  pub accepted : IsOk (encode_of index)
 
 pub record RelativeFits (form t : ℕ) : Type 0 where
   pub formed : form ≡ indexed
@@ -69,8 +71,7 @@ pub record RelativeFits (form t : ℕ) : Type 0 where
 -- a list of registers: the byte of the operand's own, which is not refused
 pub record ListFits (operand : Operand) (form b : ℕ) : Type 0 where
   pub formed : form ≡ register
-  pub accepted : (listed_of operand).refusal ≡ 0
-  pub byte : b ≡ (listed_of operand).byte
+  pub byte : listed_of operand ≡ Ok b
 
 abbrev pub ArgumentFits : Operand → Page → ℕ → ℕ → ℕ → Argument → Type 0
 ArgumentFits operand page address o form Nothing = form ≡ inherent
@@ -102,18 +103,18 @@ pub record Early (i : Instruction) (v : Values) : Type 0 where
   pub fits : strays i.operand.mode i.form ≡ false
   pub present : needs_value i.operand.mode i.form ≡ true → v.given ≡ true
 
-pub early_leaves : (i : Instruction) (v : Values) → early_of i v ≡ 0 → Early i v
+pub early_leaves : (i : Instruction) (v : Values) → IfOk (early_of i v) (λ _. Early i v)
 unfolding early_of sound lacks
 early_leaves i v =
-    let P : ℕ → Type 0 = λ n. n ≡ 0 → Early i v in
+    let P : Result ⊤ Refusal → Type 0 = λ n. IfOk n (λ _. Early i v) in
     let o = i.operand in
     let a = recognised o in
     let b = ltb i.form 7 in
     let l = not (has_form_of o.operation i.form) in
     by_test P (a && (b && lawful v))
-    (λ s. by_test P (l || strays o.mode i.form) (λ _ z. absurd (omega arith))
-    (λ t. by_test P (needs_value o.mode i.form && not v.given) (λ _ z. absurd (omega arith))
-    (λ u _. record {
+    (λ s. by_test P (l || strays o.mode i.form) (λ _. tt)
+    (λ t. by_test P (needs_value o.mode i.form && not v.given) (λ _. tt)
+    (λ u. record {
       known = both_first a (b && lawful v) s;
       small = ltb-true i.form 7 (both_first b (lawful v) (both_second a (b && lawful v) s));
       right = both_second b (lawful v) (both_second a (b && lawful v) s);
@@ -121,7 +122,7 @@ early_leaves i v =
       fits = neither_right l (strays o.mode i.form) t;
       present = λ n. not-false v.given (not_second (needs_value o.mode i.form) (not v.given) u n);
     })))
-    (λ _ z. absurd (omega arith))
+    (λ _. tt)
 
 -- ---- values
 -- a valid value has 16 bits
@@ -156,31 +157,24 @@ direct_paged o v page e =
     both_second (not o.forced) on (both_second v.given (not o.forced && on) e)
 
 -- ---- postbytes that are not refused
-abbrev Accepted : Encoded → Type 0
-Accepted e = e.refusal ≡ 0
+-- what is not refused is its value
+pub unwraps : {A E : Type 0} (r : Result A E) (other : A) → IsOk r → r ≡ Ok (result_unwrap_or r other)
+unwraps (Ok x) other e = refl
+unwraps (Err n) other e = absurd (false≢true e)
 
 -- X, Y, U and S are known registers
 pub known_index : (r : ℕ) → not_indexing r ≡ false → leb 10 r ≡ false
 known_index r h = let b = indexing r h in lt-leb 10 r (omega arith)
 
-sized_accepted : (p q width n : ℕ) → Accepted (sized_of p q width n)
-unfolding sized_of
-sized_accepted p q width n = by_pick Accepted (eqb width 8) refl refl
-
-constant_accepted : (r : ℕ) (ind : Bool) (width n : ℕ) → Accepted (constant_of r ind width n)
-unfolding constant_of
-constant_accepted r ind width n =
-    by_pick Accepted (eqb n 0) refl (by_pick Accepted (five_bits ind n) refl (sized_accepted _ _ width n))
-
-offset_accepted : (r : ℕ) (ind : Bool) (x : Value) → not_indexing r ≡ false → valid_of x ≡ true → Accepted (offset_of r ind x)
+offset_accepted : (r : ℕ) (ind : Bool) (x : Value) → not_indexing r ≡ false → valid_of x ≡ true → IsOk (offset_of r ind x)
 unfolding offset_of pick
-offset_accepted r ind x h w = rw (known_index r h, w, h) (constant_accepted r ind x.width (sign_extended_of x).number)
+offset_accepted r ind x h w = rw (known_index r h, w, h)
 
-counter_accepted : (ind : Bool) (x : Value) → valid_of x ≡ true → Accepted (counter_of ind x)
+counter_accepted : (ind : Bool) (x : Value) → valid_of x ≡ true → IsOk (counter_of ind x)
 unfolding counter_of pick
-counter_accepted ind x w = rw w (sized_accepted _ _ x.width (sign_extended_of x).number)
+counter_accepted ind x w = rw w
 
-accumulator_accepted : (r : ℕ) (ind : Bool) (a : ℕ) → not_indexing r ≡ false → not_accumulator a ≡ false → Accepted (accumulator_of r ind a)
+accumulator_accepted : (r : ℕ) (ind : Bool) (a : ℕ) → not_indexing r ≡ false → not_accumulator a ≡ false → IsOk (accumulator_of r ind a)
 unfolding accumulator_of pick
 accumulator_accepted r ind a h k =
     let b = leb-false 3 a k in
@@ -191,7 +185,7 @@ step_accepted :
     (1 ≤ k) × (k ≤ 4) →
     (ind && (eqb k 1 || eqb k 3)) ≡ false →
     not_indexing r ≡ false →
-    Accepted (step_of r ind k)
+    IsOk (step_of r ind k)
 unfolding step_of pick
 step_accepted r ind k b s h = rw (known_index r h, le-ltb k 1 b.0, le-ltb 4 k b.1, s, h)
 
@@ -204,8 +198,11 @@ is_number form = eqb form immediate || (eqb form direct || (eqb form extended ||
 
 -- ---- each form's choice
 module _ (i : Instruction) (v : Values) (page : Page) (address : ℕ) (early : Early i v) where
-  abbrev Choice : Chosen → Type 0
-  Choice c = c.refusal ≡ 0 → Fits i.operand page address c
+  abbrev Chooses : Chosen → Type 0
+  Chooses c = Fits i.operand page address c
+
+  abbrev Choice : Result Chosen Refusal → Type 0
+  Choice c = IfOk c Chooses
 
   -- the form as a number
   has_as : (form : ℕ) → eqb i.form form ≡ true → has_form_of i.operand.operation form ≡ true
@@ -229,16 +226,16 @@ module _ (i : Instruction) (v : Values) (page : Page) (address : ℕ) (early : E
   inherent_fits : eqb i.form inherent ≡ true → Choice (inherent_of i v)
   unfolding inherent_of pick
   inherent_fits q =
-      by_pick Choice v.given (λ z. absurd (omega arith))
-      (λ _. record { row = has_as inherent q; argument = refl; operation = inl refl; named = refl })
+      by_pick Choice v.given tt
+      (record { row = has_as inherent q; argument = refl; operation = inl refl; named = refl })
 
   immediate_fits : eqb i.form immediate ≡ true → Choice (immediate_of i v)
   unfolding immediate_of pick
   immediate_fits q =
       let o = i.operand.operation in
       let n = v.unsigned.number in
-      by_test Choice (eqb (number_size_of o immediate) 1 && ltb 255 n) (λ _ z. absurd (omega arith))
-      (λ t _. record {
+      by_test Choice (eqb (number_size_of o immediate) 1 && ltb 255 n) (λ _. tt)
+      (λ t. record {
         row = has_as immediate q;
         argument = record {
           formed = inl refl;
@@ -267,18 +264,18 @@ module _ (i : Instruction) (v : Values) (page : Page) (address : ℕ) (early : E
         from true p = number_given direct p refl
         from false p = number_given extended (rw p at q) refl
 
-    direct_fits : reaches page v.unsigned.number ≡ true → Choice (settled i direct (Number v.unsigned.number))
+    direct_fits : reaches page v.unsigned.number ≡ true → Chooses (settled i direct (Number v.unsigned.number))
     unfolding pick
-    direct_fits h _ = record {
+    direct_fits h = record {
       row = address_has.0;
       argument = record { formed = inr (inl refl); word = address_word; byte = λ f. absurd (omega arith); paged = λ _. h };
       operation = inl refl;
       named = refl;
     }
 
-    extended_fits : (trial : Bool) → Choice (record { refusal = 0; operation = i.operand.operation; form = extended; trial = trial; widened = i.widened; argument = Number v.unsigned.number })
+    extended_fits : (trial : Bool) → Chooses (record { operation = i.operand.operation; form = extended; trial = trial; widened = i.widened; argument = Number v.unsigned.number })
     unfolding pick
-    extended_fits trial _ = record {
+    extended_fits trial = record {
       row = address_has.1;
       argument = record {
         formed = inr (inr refl);
@@ -297,18 +294,18 @@ module _ (i : Instruction) (v : Values) (page : Page) (address : ℕ) (early : E
         by_test Choice (becomes_direct i.operand v page) (λ t. direct_fits (direct_paged i.operand v page t))
         (λ _. by_pick Choice (eqb i.form direct)
         (by_test Choice (reaches page n)
-        (λ t. by_pick Choice (forced_wide i v page) (λ z. absurd (omega arith)) (direct_fits t))
-        (λ _. by_pick Choice i.trial (extended_fits false) (λ z. absurd (omega arith))))
+        (λ t. by_pick Choice (forced_wide i v page) tt (direct_fits t))
+        (λ _. by_pick Choice i.trial (extended_fits false) tt))
         (extended_fits i.trial))
 
     -- what fits does not hang on the mark
-    anew_fits : Choice (anew_of i v page)
+    anew_fits : Chooses (anew_of i v page)
     unfolding anew_of anew_as pick
     anew_fits = go (becomes_direct i.operand v page) refl
       where
-        go : (t : Bool) → becomes_direct i.operand v page ≡ t → Choice (anew_as i v (pick t direct extended))
-        go true t = λ z. let f = direct_fits (direct_paged i.operand v page t) z in record { row = f.row; argument = f.argument; operation = inl refl; named = refl }
-        go false t = λ z. let f = extended_fits i.trial z in record { row = f.row; argument = f.argument; operation = inl refl; named = refl }
+        go : (t : Bool) → becomes_direct i.operand v page ≡ t → Chooses (anew_as i v (pick t direct extended))
+        go true t = let f = direct_fits (direct_paged i.operand v page t) in record { row = f.row; argument = f.argument; operation = inl refl; named = refl }
+        go false t = let f = extended_fits i.trial in record { row = f.row; argument = f.argument; operation = inl refl; named = refl }
 
     address_fits : Choice (address_of i v page)
     unfolding address_of
@@ -318,9 +315,9 @@ module _ (i : Instruction) (v : Values) (page : Page) (address : ℕ) (early : E
     target_word : v.unsigned.number < 65536
     target_word = number_given relative q refl
 
-    long_fits : (number_size_of i.operand.operation relative ≡ 1) → Choice (long_branch i v)
+    long_fits : (number_size_of i.operand.operation relative ≡ 1) → Chooses (long_branch i v)
     unfolding long_branch pick
-    long_fits s _ =
+    long_fits s =
         let o = i.operand.operation in
         let h = operation_small o relative (has_as relative q) in
         let l = long_of_short o h s in
@@ -338,7 +335,7 @@ module _ (i : Instruction) (v : Values) (page : Page) (address : ℕ) (early : E
         let t = v.unsigned.number in
         let h = has_as relative q in
         by_test Choice (eqb (number_size_of o relative) 2)
-        (λ two _. record {
+        (λ two. record {
           row = h;
           argument = record { formed = refl; word = target_word; near = λ s. absurd (omega (arith, s, eqb-true (number_size_of o relative) 2 two)) };
           operation = inl refl;
@@ -349,18 +346,18 @@ module _ (i : Instruction) (v : Values) (page : Page) (address : ℕ) (early : E
         (λ two. let s = branch_size o h (eqb-false (number_size_of o relative) 2 two) in
         by_test Choice i.widened (λ _. long_fits s)
         (λ w. by_test Choice (near_of (minus t (plus address 2)))
-        (λ n _. record {
+        (λ n. record {
           row = h;
           argument = record { formed = refl; word = target_word; near = λ _. n };
           operation = inl refl;
           named = rw w;
         })
-        (λ _. by_pick Choice i.operand.widening (long_fits s) (λ z. absurd (omega arith)))))
+        (λ _. by_pick Choice i.operand.widening (long_fits s) tt)))
 
   module _ (q : eqb i.form indexed ≡ true) where
-    index_is : (index : Index) → Accepted (encode_of index) → Choice (settled i indexed (Indexed index))
+    index_is : (index : Index) → IsOk (encode_of index) → Chooses (settled i indexed (Indexed index))
     unfolding pick
-    index_is index a _ = record {
+    index_is index a = record {
       row = has_as indexed q;
       argument = record { formed = refl; accepted = a };
       operation = inl refl;
@@ -372,7 +369,7 @@ module _ (i : Instruction) (v : Values) (page : Page) (address : ℕ) (early : E
     accumulator_fits =
         let a = register_at i.operand 0 in
         let r = register_at i.operand 1 in
-        by_test Choice (not (eqb i.operand.count 2) || (not_accumulator a || not_indexing r)) (λ _ z. absurd (omega arith))
+        by_test Choice (not (eqb i.operand.count 2) || (not_accumulator a || not_indexing r)) (λ _. tt)
         (λ t. let u = neither_right (not (eqb i.operand.count 2)) (not_accumulator a || not_indexing r) t in
         index_is (Accumulator r i.operand.indirect a)
         (accumulator_accepted r i.operand.indirect a (neither_right (not_accumulator a) (not_indexing r) u) (neither_left (not_accumulator a) (not_indexing r) u)))
@@ -382,23 +379,23 @@ module _ (i : Instruction) (v : Values) (page : Page) (address : ℕ) (early : E
     offset_fits =
         let r = register_at i.operand 0 in
         let x = offset_value v in
-        by_pick Choice (not (eqb i.operand.count 1)) (λ z. absurd (omega arith))
+        by_pick Choice (not (eqb i.operand.count 1)) tt
         (by_pick Choice (eqb r PC)
         (index_is (Counter i.operand.indirect x) (counter_accepted i.operand.indirect x (offset_valid v early.right)))
-        (by_test Choice (not_indexing r) (λ _ z. absurd (omega arith))
+        (by_test Choice (not_indexing r) (λ _. tt)
         (λ h. index_is (Offset r i.operand.indirect x) (offset_accepted r i.operand.indirect x h (offset_valid v early.right)))))
 
     target_fits : eqb i.operand.mode mode_pc_relative ≡ true → Choice (target_index i v)
     unfolding target_index pick
     target_fits m =
         by_pick Choice (eqb i.operand.count 1 && eqb (register_at i.operand 0) PC)
-        (λ _. record {
+        (record {
           row = has_as indexed q;
           argument = record { formed = refl; word = mode_given mode_pc_relative m refl };
           operation = inl refl;
           named = refl;
         })
-        (λ z. absurd (omega arith))
+        tt
 
     -- IncDec has a step
     stepped_in : eqb i.operand.mode mode_inc_dec ≡ true → (1 ≤ i.operand.step) × (i.operand.step ≤ 4)
@@ -418,8 +415,8 @@ module _ (i : Instruction) (v : Values) (page : Page) (address : ℕ) (early : E
     step_fits m =
         let r = register_at i.operand 0 in
         let k = i.operand.step in
-        by_test Choice (i.operand.indirect && (eqb k 1 || eqb k 3)) (λ _ z. absurd (omega arith))
-        (λ s. by_test Choice (not (eqb i.operand.count 1) || not_indexing r) (λ _ z. absurd (omega arith))
+        by_test Choice (i.operand.indirect && (eqb k 1 || eqb k 3)) (λ _. tt)
+        (λ s. by_test Choice (not (eqb i.operand.count 1) || not_indexing r) (λ _. tt)
         (λ t. index_is (Step r i.operand.indirect k)
         (step_accepted r i.operand.indirect k (stepped_in m) s (neither_right (not (eqb i.operand.count 1)) (not_indexing r) t))))
 
@@ -434,27 +431,26 @@ module _ (i : Instruction) (v : Values) (page : Page) (address : ℕ) (early : E
 
   registers_fits : eqb i.form register ≡ true → Choice (registers_of i)
   unfolding registers_of pick
-  registers_fits q =
-      let l = listed_of i.operand in
-      by_test Choice (eqb l.refusal 0)
-      (λ t _. record {
+  registers_fits q = go (listed_of i.operand) refl
+    where
+      go : (l : Result ℕ Refusal) → listed_of i.operand ≡ l → Choice (list_settled i l)
+      go (Ok byte) e = record {
         row = has_as register q;
-        argument = record { formed = refl; accepted = eqb-true l.refusal 0 t; byte = refl };
+        argument = record { formed = refl; byte = e };
         operation = inl refl;
         named = refl;
-      })
-      (λ t z. absurd (eqb-false l.refusal 0 t z))
+      }
+      go (Err n) e = tt
 
 -- what is chosen, after 1, 2 and 3, fits
 pub choose_fits :
     (i : Instruction) (v : Values) (page : Page) (address : ℕ) →
     Early i v →
-    (choose_of i v page address).refusal ≡ 0 →
-    Fits i.operand page address (choose_of i v page address)
+    IfOk (choose_of i v page address) (Fits i.operand page address)
 unfolding choose_of
 choose_fits i v page address e =
     let f = i.form in
-    let P : Chosen → Type 0 = λ c. c.refusal ≡ 0 → Fits i.operand page address c in
+    let P : Result Chosen Refusal → Type 0 = λ c. IfOk c (Fits i.operand page address) in
     by_test P (eqb f inherent) (inherent_fits i v page address e)
     (λ a. by_test P (eqb f immediate) (immediate_fits i v page address e)
     (λ b. by_test P (eqb f direct || eqb f extended) (address_fits i v page address e)
@@ -465,23 +461,22 @@ choose_fits i v page address e =
 
 -- an accepted build is what was chosen, laid down
 pub record Builds (i : Instruction) (v : Values) (page : Page) (address : ℕ) (b : Built) : Type 0 where
+  pub choice : Chosen
   pub early : Early i v
-  pub chosen : (choose_of i v page address).refusal ≡ 0
-  pub fits : Fits i.operand page address (choose_of i v page address)
-  pub built : b ≡ accepted_of i (choose_of i v page address) address
+  pub chosen : choose_of i v page address ≡ Ok choice
+  pub fits : Fits i.operand page address choice
+  pub built : b ≡ accepted_of i choice address
 
 pub build_chosen :
     (i : Instruction) (v : Values) (page : Page) (address : ℕ) →
-    (build_of i v page address).refusal ≡ 0 →
-    Builds i v page address (build_of i v page address)
-unfolding build_of finished_of
-build_chosen i v page address =
-    let P : Built → Type 0 = λ b. b.refusal ≡ 0 → Builds i v page address b in
-    let c = choose_of i v page address in
-    by_test P (eqb (early_of i v) 0)
-    (λ a. by_test P (eqb c.refusal 0)
-    (λ d _. let e = early_leaves i v (eqb-true (early_of i v) 0 a) in
-    let n = eqb-true c.refusal 0 d in
-    record { early = e; chosen = n; fits = choose_fits i v page address e n; built = refl })
-    (λ d z. absurd (eqb-false c.refusal 0 d z)))
-    (λ a z. absurd (eqb-false (early_of i v) 0 a z))
+    IfOk (tried_of i v page address) (Builds i v page address)
+unfolding tried_of
+build_chosen i v page address = go (early_of i v) (early_leaves i v) (choose_of i v page address) refl (choose_fits i v page address)
+  where
+    go :
+        (n : Result ⊤ Refusal) → IfOk n (λ _. Early i v) →
+        (c : Result Chosen Refusal) → choose_of i v page address ≡ c → (Early i v → IfOk c (Fits i.operand page address)) →
+        IfOk (after n (finished_of i c address)) (Builds i v page address)
+    go (Ok passed) early (Ok c) e fits = record { choice = c; early = early; chosen = e; fits = fits early; built = refl }
+    go (Ok passed) early (Err n) e fits = tt
+    go (Err n) early c e fits = tt

@@ -6,11 +6,12 @@ use mathlib.Core.Bool.{Bool, true, false, ◌&&◌}
 use mathlib.Core.List.{List, [], ◌∷◌}
 use mathlib.Core.Logic.{◌⊎◌, inl, inr, ⊎_elim}
 use Prim.Native.Nat.{ℕ, ◌<◌}
-use native.Mathlib.Omega.{arith}
 use lib.Dec.{eqb, ltb}
 use borrow.Author.Tests.{eqb-true}
+use Rattle.std.specs.Prelude.{Result, Ok, Err, IfOk, ⊤}
 use Rattle.ground.specs.Choice.{pick}
-use Rattle.ground.proofs.Choices.{by_test, by_pick}
+use Rattle.ground.specs.declared.refusals.Refusal.{Refusal}
+use Rattle.ground.proofs.Choices.{by_pick}
 use Rattle.ground.proofs.Tests.{both_first}
 use Rattle.values.specs.declared.pages.Page.{Page}
 use Rattle.values.specs.declared.pages.Page.TheVariants.{Unknown}
@@ -22,14 +23,12 @@ use Rattle.instruction.specs.declared.Values.{Values}
 use Rattle.instruction.specs.declared.Record.{Record}
 use Rattle.instruction.specs.declared.Instruction.{Instruction}
 use Rattle.instruction.specs.declared.Chosen.{Chosen}
-use Rattle.instruction.specs.declared.Made.{Made}
-use Rattle.instruction.specs.declared.Built.{Built}
 use Rattle.instruction.specs.Names.{mode_extended}
 use Rattle.instruction.specs.Records.{recognised, lawful, sound}
 use Rattle.instruction.specs.Forms.{becomes_direct, form_of, lacks}
 use Rattle.instruction.specs.Choosing.{forced_wide, leaves_direct, stays_direct, directly_of, anew_as, anew_of, address_of, long_branch, branch_of, choose_of}
-use Rattle.instruction.specs.Building.{no_values, instruction_of, make_of, early_of, accepted_of, finished_of, build_of}
-use Rattle.instruction.specs.Sequences.{Present, built_with, kept_after, long_kept}
+use Rattle.instruction.specs.Building.{no_values, instruction_of, make_of, early_of, accepted_of, finished_of, after, tried_of, handing, build_of}
+use Rattle.instruction.specs.Sequences.{Present, built_with, instruction_in, kept_after, long_kept}
 use Rattle.instruction.proofs.Before.{lacks_same}
 use Rattle.instruction.proofs.Ready.{lacking_none, made_whole, made_ready}
 use Rattle.instruction.proofs.Choice.{not_strange, choice}
@@ -54,8 +53,8 @@ pub data Kept (o : Operand) (i : Instruction) : Type 0 where
 abbrev chosen_for : Operand → Chosen → Instruction
 chosen_for o c = record { operand = o; form = c.form; trial = c.trial; widened = c.widened }
 
-abbrev Next : Operand → Chosen → Type 0
-Next o c = c.refusal ≡ 0 → Kept o (chosen_for o c)
+abbrev Next : Operand → Result Chosen Refusal → Type 0
+Next o c = IfOk c (λ k. Kept o (chosen_for o k))
 
 -- ---- a steady form is kept, unmarked, or it is a branch that was made long
 module _ (o : Operand) (f : ℕ) (st : Steady o f) (v : Values) (page : Page) (address : ℕ) where
@@ -66,17 +65,15 @@ module _ (o : Operand) (f : ℕ) (st : Steady o f) (v : Values) (page : Page) (a
       let q = (st.memory m).1 in
       let stays : Kept o (plain o direct) = steady f st (ap (plain o) (sym (eqb-true f direct q))) in
       rw ((st.memory m).0, q)
-      (by_pick (Next o) (becomes_direct o v page) (λ _. stays)
-      (by_pick (Next o) (reaches page v.unsigned.number)
-      (by_pick (Next o) (forced_wide (plain o f) v page) (λ z. absurd (omega arith)) (λ _. stays))
-      (λ z. absurd (omega arith))))
+      (by_pick (Next o) (becomes_direct o v page) stays
+      (by_pick (Next o) (reaches page v.unsigned.number) (by_pick (Next o) (forced_wide (plain o f) v page) tt stays) tt))
 
   steady_next : recognised o ≡ true → f < 7 → Next o (choose_of (plain o f) v page address)
   unfolding long_branch
   steady_next known =
-      choice (plain o f) v page address (Next o) (λ n t z. absurd (omega arith))
-      (λ form a q _. steady f st (ap (plain o) (sym (eqb-true f form q))))
-      (λ q s a _. long (record { branch = relative_branch o no_values Unknown (st.always no_values Unknown ∙ eqb-true f relative q); short = s; allowed = a }) refl)
+      choice (plain o f) v page address (Next o) (λ n t. tt)
+      (λ form a q. steady f st (ap (plain o) (sym (eqb-true f form q))))
+      (λ q s a. long (record { branch = relative_branch o no_values Unknown (st.always no_values Unknown ∙ eqb-true f relative q); short = s; allowed = a }) refl)
       address_next (not_strange o known)
 
 -- ---- a free form is chosen anew
@@ -94,7 +91,7 @@ module _ (o : Operand) (fr : Free o) (i : Instruction) (m : is_memory i.form ≡
       go true q = inl (eqb-true i.form direct q)
       go false q = inr (eqb-true i.form extended (rw q at m))
 
-  pub chosen_anew : (v : Values) (page : Page) (address : ℕ) → choose_of i v page address ≡ anew v page
+  pub chosen_anew : (v : Values) (page : Page) (address : ℕ) → choose_of i v page address ≡ Ok (anew v page)
   unfolding choose_of address_of anew_of anew_as pick
   chosen_anew v page address = ⊎_elim (λ (d : i.form ≡ direct). rw (d, e, is_extended, w)) (λ (d : i.form ≡ extended). rw (d, e, is_extended, w)) one_of
 
@@ -102,42 +99,42 @@ module _ (o : Operand) (fr : Free o) (i : Instruction) (m : is_memory i.form ≡
   unfolding anew_of anew_as
   free_next v page address =
       rw (chosen_anew v page address)
-      (λ _. free fr (by_pick (λ (k : ℕ). is_memory k ≡ true) (becomes_direct o v page) refl refl) refl refl)
+      (free fr (by_pick (λ (k : ℕ). is_memory k ≡ true) (becomes_direct o v page) refl refl) refl refl)
 
 -- ---- a branch that was made long is made so again
-pub chosen_long : (o : Operand) → MayWiden o → (v : Values) (page : Page) (address : ℕ) → choose_of (long_kept o) v page address ≡ long_branch (long_kept o) v
+pub chosen_long : (o : Operand) → MayWiden o → (v : Values) (page : Page) (address : ℕ) → choose_of (long_kept o) v page address ≡ Ok (long_branch (long_kept o) v)
 unfolding choose_of branch_of pick
 chosen_long o b v page address = rw b.short
 
 -- ---- each build
 module _ (o : Operand) (known : recognised o ≡ true) (has : (v : Values) (page : Page) → lacks o (form_of o v page) ≡ false) where
   -- a refused one leaves it as it was
-  on_from : (i : Instruction) (p : Present) → i.operand ≡ o → Kept o i → Next o (choose_of i p.values p.page p.address) → Kept o (built_with i p).instruction
-  unfolding build_of finished_of accepted_of
-  on_from i p e k next =
-      let P : Built → Type 0 = λ b. Kept o b.instruction in
-      let c = choose_of i p.values p.page p.address in
-      by_pick P (eqb (early_of i p.values) 0)
-      (by_test P (eqb c.refusal 0) (λ z. subst (λ (x : Operand). Kept o (chosen_for x c)) (sym e) (next (eqb-true c.refusal 0 z))) (λ _. k))
-      k
+  on_from : (i : Instruction) (p : Present) → i.operand ≡ o → Kept o i → Next o (choose_of i p.values p.page p.address) → Kept o (instruction_in (built_with i p))
+  unfolding build_of tried_of accepted_of
+  on_from i p e k next = go (early_of i p.values) (choose_of i p.values p.page p.address) next
+    where
+      go : (n : Result ⊤ Refusal) (c : Result Chosen Refusal) → Next o c → Kept o (instruction_in (handing i (after n (finished_of i c p.address))))
+      go (Ok passed) (Ok c) next = subst (λ (x : Operand). Kept o (chosen_for x c)) (sym e) next
+      go (Ok passed) (Err n) next = k
+      go (Err n) c next = k
 
   small_form : (f : ℕ) → Steady o f → f < 7
   small_form f s = lacking_none o f (subst (λ (k : ℕ). lacks o k ≡ false) (s.always no_values Unknown) (has no_values Unknown))
 
-  kept_on : (i : Instruction) (p : Present) → Kept o i → Kept o (built_with i p).instruction
+  kept_on : (i : Instruction) (p : Present) → Kept o i → Kept o (instruction_in (built_with i p))
   unfolding long_branch
   kept_on i p (steady f s e) =
-      subst (λ (j : Instruction). Kept o (built_with j p).instruction) (sym e)
+      subst (λ (j : Instruction). Kept o (instruction_in (built_with j p))) (sym e)
       (on_from (plain o f) p refl (steady f s refl) (steady_next o f s p.values p.page p.address known (small_form f s)))
   kept_on i p (free f m e w) = on_from i p e (free f m e w) (free_next o f i m e w p.values p.page p.address)
   kept_on i p (long b e) =
-      subst (λ (j : Instruction). Kept o (built_with j p).instruction) (sym e)
-      (on_from (long_kept o) p refl (long b refl) (rw (chosen_long o b p.values p.page p.address) (λ _. long b refl)))
+      subst (λ (j : Instruction). Kept o (instruction_in (built_with j p))) (sym e)
+      (on_from (long_kept o) p refl (long b refl) (rw (chosen_long o b p.values p.page p.address) (long b refl)))
 
   after_kept : (ps : List Present) (i : Instruction) → Kept o i → Kept o (kept_after i ps)
   unfolding kept_after
   after_kept [] i k = k
-  after_kept (p ∷ ps) i k = after_kept ps (built_with i p).instruction (kept_on i p k)
+  after_kept (p ∷ ps) i k = after_kept ps (instruction_in (built_with i p)) (kept_on i p k)
 
   made_kept : (v : Values) (page : Page) → Kept o (instruction_of o (form_of o v page))
   unfolding instruction_of
@@ -148,23 +145,22 @@ module _ (o : Operand) (known : recognised o ≡ true) (has : (v : Values) (page
       go (is_free f) = free f (one_of_two o f v page) refl refl
 
 -- ---- of a record that makes an instruction
-pub record Lasts (r : Record) : Type 0 where
+pub record Lasts (r : Record) (i : Instruction) : Type 0 where
   pub known : recognised r.operand ≡ true
   pub has : (v : Values) (page : Page) → lacks r.operand (form_of r.operand v page) ≡ false
-  pub kept : (ps : List Present) → Kept r.operand (kept_after (make_of r).instruction ps)
+  pub kept : (ps : List Present) → Kept r.operand (kept_after i ps)
 
-pub made_lasts : (r : Record) → (make_of r).refusal ≡ 0 → Lasts r
+pub made_lasts : (r : Record) (i : Instruction) → make_of r ≡ Ok i → Lasts r i
 unfolding instruction_of sound
-made_lasts r z =
+made_lasts r i z =
     let o = r.operand in
     let form = form_of o r.values r.page in
-    let whole = made_whole r z in
-    let ready = made_ready r (instruction_of o form) whole in
+    let whole = made_whole r i z in
+    let ready = rw whole at (made_ready r i z) in
     let known : recognised o ≡ true = both_first (recognised o) (ltb form 7 && lawful r.values) ready.0 in
     let has : (v : Values) (page : Page) → lacks o (form_of o v page) ≡ false = λ v page. lacks_same o v r.values page r.page ∙ ready.1 in
-    let first : (make_of r).instruction ≡ instruction_of o form = ap (λ (m : Made). m.instruction) whole in
     record {
       known = known;
       has = has;
-      kept = λ ps. after_kept o known has ps (make_of r).instruction (subst (Kept o) (sym first) (made_kept o known has r.values r.page));
+      kept = λ ps. after_kept o known has ps i (subst (Kept o) (sym whole) (made_kept o known has r.values r.page));
     }

@@ -1,4 +1,5 @@
 pub mod Tests
+pub mod Results
 pub mod Padded
 pub mod Keeps
 pub mod Ready

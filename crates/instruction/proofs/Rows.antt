@@ -9,13 +9,14 @@ use Prim.Native.Nat.{ℕ, ◌-◌, ◌*◌, ◌/◌, ◌<◌}
 use native.Mathlib.Omega.{arith}
 use lib.Dec.{eqb, ltb, leb}
 use borrow.Author.Tests.{ltb-false, lt-ltb, eqb-true, leb-true, not-false}
+use Rattle.std.specs.Prelude.{Result, Ok, Err, is_ok}
 use Rattle.ground.specs.Choice.{pick}
 use Rattle.ground.proofs.Choices.{pick_true, by_test}
 use Rattle.ground.proofs.Tests.{both_second, neither_left}
-use Rattle.rows.specs.declared.Coded.{Coded}
-use Rattle.rows.specs.declared.Coded.TheVariants.{Code, Unknown, Missing}
+use Rattle.ground.specs.declared.refusals.Refusal.{Refusal}
+use Rattle.rows.specs.declared.Code.{Code}
 use Rattle.rows.specs.Forms.{direct, extended, relative}
-use Rattle.rows.specs.Lookup.{merged_of, is_code, has_form_of, code_of}
+use Rattle.rows.specs.Lookup.{merged_of, coded, has_form_of, code_of}
 use Rattle.rows.specs.Sizes.{any_of, is_long, number_at, of_code, number_size_of, between, long_from, long_of}
 use Rattle.rows.specs.Quick.{number_digit, number_bytes}
 use Rattle.rows.proofs.Codes.{has_form_code}
@@ -27,17 +28,16 @@ use Rattle.rows.proofs.Lengths.{number_has_form}
 pub record Has (o form : ℕ) : Type 0 where
   pub page : ℕ
   pub code : ℕ
-  pub coded : code_of o form ≡ Code page code
+  pub coded : code_of o form ≡ coded page code
 
 pub has_code : (o form : ℕ) → has_form_of o form ≡ true → Has o form
 has_code o form h = from (code_of o form) refl (sym (has_form_code o form) ∙ h)
   where
-    from : (a : Coded) → code_of o form ≡ a → is_code a ≡ true → Has o form
-    from (Code p c) e t = record { page = p; code = c; coded = e }
-    from Unknown e t = absurd (false≢true t)
-    from Missing e t = absurd (false≢true t)
+    from : (a : Result Code Refusal) → code_of o form ≡ a → is_ok a ≡ true → Has o form
+    from (Ok k) e t = record { page = k.page; code = k.code; coded = e }
+    from (Err r) e t = absurd (false≢true t)
 
-pub number_at_lem : (o form p c : ℕ) → code_of o form ≡ Code p c → number_size_of o form ≡ number_at form p c
+pub number_at_lem : (o form p c : ℕ) → code_of o form ≡ coded p c → number_size_of o form ≡ number_at form p c
 unfolding number_size_of
 number_at_lem o form p c e = ap (of_code (number_at form)) e
 
@@ -77,7 +77,7 @@ branch_size o h n =
     from false d = d
 
 -- a short branch has no prefix
-pub short_page : (o p c : ℕ) → code_of o relative ≡ Code p c → number_size_of o relative ≡ 1 → p ≡ 0x00
+pub short_page : (o p c : ℕ) → code_of o relative ≡ coded p c → number_size_of o relative ≡ 1 → p ≡ 0x00
 unfolding number_at is_long pick
 short_page o p c e s = from (is_long p c) refl (number_at_lem o relative p c e)
   where

@@ -10,21 +10,23 @@ use native.Mathlib.Nat.{min-le_left, min-le_right}
 use native.Mathlib.Omega.{arith}
 use lib.Dec.{T, eqb}
 use borrow.Author.Tests.{eqb-true, eqb-false}
+use Rattle.std.proofs.lemmas.Result.{IfOk-at_ok}
+use Rattle.std.specs.Prelude.{Ok}
 use Rattle.ground.specs.Choice.{pick}
 use Rattle.ground.specs.Words.{plus, minus}
 use Rattle.ground.proofs.Choices.{pick_true, pick_false, by_test, by_pick}
 use Rattle.ground.proofs.Ranges.{below}
 use Rattle.values.specs.declared.pages.Page.{Page}
-use Rattle.rows.specs.declared.Coded.TheVariants.{Code}
 use Rattle.rows.specs.Forms.{immediate, direct, indexed, extended, relative, register}
-use Rattle.rows.specs.Lookup.{has_form_of, code_of, forms}
+use Rattle.rows.specs.Lookup.{coded, has_form_of, code_of, forms}
 use Rattle.rows.specs.Sizes.{any_of, number_at, of_code, number_size_of, least_at, lesser, least_among, smallest_size_of}
 use Rattle.rows.proofs.Laws.{code_form}
 use Rattle.rows.proofs.Bytes.{number_size_small}
 use Rattle.rows.proofs.Lengths.{number_has_form, long_of_short}
 use Rattle.postbytes.specs.declared.Encoded.{Encoded}
-use Rattle.postbytes.specs.Writing.{near_of, relative_of}
-use Rattle.postbytes.proofs.Round.{read_back}
+use Rattle.postbytes.specs.Writing.{encode_of, near_of, relative_of}
+use Rattle.postbytes.specs.Meanings.{meaning_of}
+use Rattle.postbytes.proofs.Round.{Back, read_back}
 use Rattle.instruction.specs.declared.Operand.{Operand}
 use Rattle.instruction.specs.declared.Values.{Values}
 use Rattle.instruction.specs.declared.Instruction.{Instruction}
@@ -32,12 +34,13 @@ use Rattle.instruction.specs.declared.Chosen.{Chosen}
 use Rattle.instruction.specs.declared.Laid.{Laid}
 use Rattle.instruction.specs.declared.Argument.{Argument}
 use Rattle.instruction.specs.declared.Argument.TheVariants.{Nothing, Number, Target, Indexed, Relative, Registers}
-use Rattle.instruction.specs.Choosing.{choose_of}
-use Rattle.instruction.specs.Bytes.{number_bytes, operand_bytes, code_size, behind_code, laid_at, laid_of}
-use Rattle.instruction.specs.Building.{accepted_of, build_of}
-use Rattle.instruction.proofs.Padded.{build_five}
+use Rattle.instruction.specs.Bytes.{nothing, number_bytes, operand_bytes, code_size, behind_code, laid_at, laid_of}
+use Rattle.instruction.specs.Building.{accepted_of, tried_of}
+use Rattle.instruction.proofs.Padded.{build_five, Five}
+use Rattle.instruction.specs.declared.Built.{Built}
+use Rattle.instruction.proofs.Results.{of_ok}
 use Rattle.instruction.proofs.Rows.{Has, has_code, number_at_lem, operation_small, short_page}
-use Rattle.instruction.proofs.Fits.{ArgumentFits, Widens, Fits, build_chosen}
+use Rattle.instruction.proofs.Fits.{unwraps, ArgumentFits, Widens, Fits, build_chosen, Builds}
 
 -- ---- the smallest size is at most the least of each row
 lesser_left : (a b : ℕ) → 0 < a → (0 < lesser a b) × (lesser a b ≤ a)
@@ -81,7 +84,7 @@ prefixed_some : (page : ℕ) → 1 ≤ prefixed page
 unfolding prefixed
 prefixed_some page = by_pick (λ (n : ℕ). 1 ≤ n) (eqb page 0x00) (omega arith) (omega arith)
 
-pub smallest_least : (o form p c : ℕ) → code_of o form ≡ Code p c → smallest_size_of o ≤ least_at form p c
+pub smallest_least : (o form p c : ℕ) → code_of o form ≡ coded p c → smallest_size_of o ≤ least_at form p c
 unfolding smallest_size_of least_at prefixed
 smallest_least o form p c e =
     let l : least_in o form ≡ least_at form p c = ap (of_code (least_at form)) e in
@@ -112,7 +115,7 @@ number_length size n h =
 least : ℕ → ℕ → ℕ → ℕ
 least form p c = pick (eqb form indexed || eqb form register) 1 (number_at form p c)
 
-number_least : (o form p c n : ℕ) → code_of o form ≡ Code p c → (eqb form indexed || eqb form register) ≡ false → least form p c ≤ (number_bytes (number_size_of o form) n).length
+number_least : (o form p c n : ℕ) → code_of o form ≡ coded p c → (eqb form indexed || eqb form register) ≡ false → least form p c ≤ (number_bytes (number_size_of o form) n).length
 unfolding least
 number_least o form p c n e h =
     let a : least form p c ≡ number_at form p c = pick_false _ _ h in
@@ -131,7 +134,7 @@ relative_some target after ind =
 
 argument_least :
     (operand : Operand) (page : Page) (address o form p c : ℕ) (a : Argument) (after : ℕ) →
-    code_of o form ≡ Code p c →
+    code_of o form ≡ coded p c →
     ArgumentFits operand page address o form a →
     least form p c ≤ (operand_bytes o form a after).length
 unfolding operand_bytes least number_at pick
@@ -144,12 +147,12 @@ argument_least operand page address o form p c (Number n) after e f = from f.for
     from (inr (inr q)) = number_least o form p c n e (rw q)
 argument_least operand page address o form p c (Target t) after e f = number_least o form p c _ e (rw f.formed)
 argument_least operand page address o form p c (Indexed index) after e f =
-    postbyte_least form p c _ (rw f.formed) (read_back index f.accepted []).some
+    postbyte_least form p c _ (rw f.formed) (IfOk-at_ok (λ b. Back b (meaning_of index)) (unwraps (encode_of index) nothing f.accepted) (read_back index) []).some
 argument_least operand page address o form p c (Relative t ind) after e f =
     postbyte_least form p c _ (rw f.formed) (relative_some t after ind)
 argument_least operand page address o form p c (Registers b) after e f = postbyte_least form p c 1 (rw f.formed) (omega arith)
 
-laid_least : (operand : Operand) (page : Page) (address : ℕ) (c : Chosen) (p k : ℕ) → code_of c.operation c.form ≡ Code p k → Fits operand page address c → least_at c.form p k ≤ (laid_of c address).length
+laid_least : (operand : Operand) (page : Page) (address : ℕ) (c : Chosen) (p k : ℕ) → code_of c.operation c.form ≡ coded p k → Fits operand page address c → least_at c.form p k ≤ (laid_of c address).length
 unfolding laid_of laid_at least_at prefixed least
 laid_least operand page address c p k e f =
     rw e
@@ -157,7 +160,7 @@ laid_least operand page address c p k e f =
     omega (arith, behind_length p k b, argument_least operand page address c.operation c.form p k c.argument (plus address (code_size p)) e f.argument))
 
 -- a branch has its code and its distance
-branch_least : (o p c : ℕ) → code_of o relative ≡ Code p c → least_at relative p c ≡ prefixed p + number_size_of o relative
+branch_least : (o p c : ℕ) → code_of o relative ≡ coded p c → least_at relative p c ≡ prefixed p + number_size_of o relative
 unfolding least_at prefixed pick
 branch_least o p c e = ap (λ (n : ℕ). pick (eqb p 0x00) 1 2 + n) (sym (number_at_lem o relative p c e))
 
@@ -184,19 +187,19 @@ chosen_size operand page address c f = from f.operation
         branch_least o j.page j.code j.coded
         ∙ ap (λ (n : ℕ). prefixed j.page + n) w.short
         ∙ ap (λ (n : ℕ). prefixed n + 1) (short_page o j.page j.code j.coded w.short) in
-        let d : code_of c.operation relative ≡ Code k.page k.code = ap (code_of c.operation) (sym w.formed) ∙ k.coded in
+        let d : code_of c.operation relative ≡ coded k.page k.code = ap (code_of c.operation) (sym w.formed) ∙ k.coded in
         let two : number_size_of c.operation relative ≡ 2 = ap (λ (n : ℕ). number_size_of n relative) w.long ∙ long_of_short o (operation_small o relative h) w.short in
         let l : least_at relative k.page k.code ≤ (laid_of c address).length = subst (λ (g : ℕ). least_at g k.page k.code ≤ (laid_of c address).length) w.formed laid in
         omega (arith, smallest_least o relative j.page j.code j.coded, branch_least c.operation k.page k.code d, prefixed_some k.page)
 
 -- from the row's smallest size to five
 pub size_between :
-    (i : Instruction) (v : Values) (page : Page) (address : ℕ) →
-    (build_of i v page address).refusal ≡ 0 →
-    (smallest_size_of i.operand.operation ≤ (build_of i v page address).length) × ((build_of i v page address).length ≤ 5)
+    (i : Instruction) (v : Values) (page : Page) (address : ℕ) (b : Built) →
+    tried_of i v page address ≡ Ok b →
+    (smallest_size_of i.operand.operation ≤ b.length) × (b.length ≤ 5)
 unfolding accepted_of
-size_between i v page address e =
-    let k = build_chosen i v page address e in (
-      rw k.built (chosen_size i.operand page address (choose_of i v page address) k.fits),
-      (build_five i v page address).most,
+size_between i v page address b e =
+    let k = of_ok (Builds i v page address) (build_chosen i v page address) e in (
+      rw k.built (chosen_size i.operand page address k.choice k.fits),
+      (of_ok (λ (x : Built). Five x.bytes x.length) (build_five i v page address) e).most,
     )

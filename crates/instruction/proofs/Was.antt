@@ -4,7 +4,9 @@ use Prim.Native.Nat.{ℕ}
 use mathlib.Core.Bool.{Bool, false, ◌&&◌, ◌||◌, not}
 use lib.Dec.{eqb, ltb}
 use Rattle.ground.specs.Choice.{pick}
-use Rattle.ground.specs.Refusals.{unknown, no_such_mode, bad_width}
+use Rattle.std.specs.Prelude.{Result, Ok, Err, Option, Some, None}
+use Rattle.ground.specs.declared.refusals.Refusal.{Refusal}
+use Rattle.ground.specs.declared.refusals.Refusal.TheVariants.{NoSuchMode, BadWidth, Unknown}
 use Rattle.rows.specs.Forms.{inherent, immediate, direct, indexed, extended, relative}
 use Rattle.rows.specs.Lookup.{has_form_of}
 use Rattle.instruction.specs.declared.Operand.{Operand}
@@ -12,13 +14,13 @@ use Rattle.instruction.specs.declared.Values.{Values}
 use Rattle.instruction.specs.declared.Instruction.{Instruction}
 use Rattle.instruction.specs.declared.Chosen.{Chosen}
 use Rattle.instruction.specs.declared.Argument.TheVariants.{Number}
-use Rattle.instruction.specs.declared.Made.{Made}
 use Rattle.instruction.specs.declared.Built.{Built}
+use Rattle.instruction.specs.declared.Refused.{Refused}
 use Rattle.instruction.specs.Names.{mode_register, mode_extended, mode_direct, mode_immediate, mode_inherent}
 use Rattle.instruction.specs.Records.{recognised, lawful}
 use Rattle.instruction.specs.Forms.{register_form, lacks}
-use Rattle.instruction.specs.Choosing.{refuse, settled, inherent_of, immediate_of, leaves_direct, anew_as, index_of, branch_of, registers_of}
-use Rattle.instruction.specs.Building.{no_values, no_instruction, unmade, made_as, early_of, refused_with, finished_of, handed}
+use Rattle.instruction.specs.Choosing.{settled, inherent_of, immediate_of, leaves_direct, anew_as, index_of, branch_of, registers_of}
+use Rattle.instruction.specs.Building.{no_values, made_as, early_of, finished_of, after, handing}
 
 -- the page test: an address that one byte reaches
 unfoldable pub on_page : Bool → ℕ → Bool
@@ -48,24 +50,24 @@ unfoldable pub forced_wide : Instruction → Values → Bool
 forced_wide i v = i.operand.forced && eqb v.unsigned.width 16
 
 -- "Else, Direct with page dirty or value above 255"
-unfoldable pub stays_direct : Instruction → Values → Bool → Chosen
+unfoldable pub stays_direct : Instruction → Values → Bool → Result Chosen Refusal
 stays_direct i v dirty =
     pick (dirty || ltb 255 v.unsigned.number) (leaves_direct i v)
-    (pick (forced_wide i v) (refuse bad_width) (settled i direct (Number v.unsigned.number)))
+    (pick (forced_wide i v) (Err BadWidth) (Ok (settled i direct (Number v.unsigned.number))))
 
-unfoldable pub directly_of : Instruction → Values → Bool → Chosen
+unfoldable pub directly_of : Instruction → Values → Bool → Result Chosen Refusal
 directly_of i v dirty =
-    pick (becomes_direct i.operand v dirty) (settled i direct (Number v.unsigned.number))
+    pick (becomes_direct i.operand v dirty) (Ok (settled i direct (Number v.unsigned.number)))
     (pick (eqb i.form direct) (stays_direct i v dirty)
-    (settled i extended (Number v.unsigned.number)))
+    (Ok (settled i extended (Number v.unsigned.number))))
 
 unfoldable pub anew_of : Instruction → Values → Bool → Chosen
 anew_of i v dirty = anew_as i v (pick (becomes_direct i.operand v dirty) direct extended)
 
-unfoldable pub address_of : Instruction → Values → Bool → Chosen
-address_of i v dirty = pick (eqb i.operand.mode mode_direct) (directly_of i v dirty) (anew_of i v dirty)
+unfoldable pub address_of : Instruction → Values → Bool → Result Chosen Refusal
+address_of i v dirty = pick (eqb i.operand.mode mode_direct) (directly_of i v dirty) (Ok (anew_of i v dirty))
 
-unfoldable pub choose_of : Instruction → Values → Bool → ℕ → Chosen
+unfoldable pub choose_of : Instruction → Values → Bool → ℕ → Result Chosen Refusal
 choose_of i v dirty address =
     pick (eqb i.form inherent) (inherent_of i v)
     (pick (eqb i.form immediate) (immediate_of i v)
@@ -74,19 +76,21 @@ choose_of i v dirty address =
     (pick (eqb i.form relative) (branch_of i v address) (registers_of i)))))
 
 -- an operand record was the operand, the flag and the values
-unfoldable pub make_of : Operand → Bool → Values → Made
-make_of o dirty v = pick (recognised o && lawful v) (made_as o (form_of o v dirty)) (unmade unknown)
+unfoldable pub make_of : Operand → Bool → Values → Result Instruction Refusal
+make_of o dirty v = pick (recognised o && lawful v) (made_as o (form_of o v dirty)) (Err Unknown)
 
-unfoldable pub operand_refusal : Operand → ℕ
-operand_refusal o = pick (recognised o) (pick (lacks o (form_of o no_values false)) no_such_mode 0) unknown
+unfoldable pub operand_refusal : Operand → Option Refusal
+operand_refusal o = pick (recognised o) (pick (lacks o (form_of o no_values false)) (Some NoSuchMode) None) (Some Unknown)
 
-unfoldable pub build_of : Instruction → Values → Bool → ℕ → Built
-build_of i v dirty address =
-    pick (eqb (early_of i v) 0) (finished_of i (choose_of i v dirty address) address) (refused_with i (early_of i v))
+unfoldable pub tried_of : Instruction → Values → Bool → ℕ → Result Built Refusal
+tried_of i v dirty address = after (early_of i v) (finished_of i (choose_of i v dirty address) address)
 
-unfoldable pub fresh_from : Made → Bool → Values → ℕ → Built
-fresh_from m dirty v address =
-    pick (eqb m.refusal 0) (handed (build_of m.instruction v dirty address)) (refused_with no_instruction m.refusal)
+unfoldable pub build_of : Instruction → Values → Bool → ℕ → Result Built Refused
+build_of i v dirty address = handing i (tried_of i v dirty address)
 
-unfoldable pub fresh_of : Operand → Bool → Values → ℕ → Built
+abbrev pub fresh_from : Result Instruction Refusal → Bool → Values → ℕ → Result Built Refusal
+fresh_from (Ok i) dirty v address = tried_of i v dirty address
+fresh_from (Err n) dirty v address = Err n
+
+unfoldable pub fresh_of : Operand → Bool → Values → ℕ → Result Built Refusal
 fresh_of o dirty v address = fresh_from (make_of o dirty v) dirty v address

@@ -1,7 +1,9 @@
 -- 01, "A kept instruction is taken by value and handed back": making one, and building it.
-use Rattle.std.specs.Prelude.{ℕ, Bool, false, ◌&&◌, ◌||◌, not, List, ◌++◌, eqb, ltb, length, take, drop, replicate}
+use Rattle.std.specs.Prelude.{ℕ, Bool, false, ◌&&◌, ◌||◌, not, List, [], ◌++◌, Option, Some, None, Result, Ok, Err, ⊤, eqb, ltb, length, take, drop}
 use Rattle.ground.specs.Choice.{pick}
-use Rattle.ground.specs.Refusals.{unknown, no_such_mode, value_missing, no_room}
+use Rattle.ground.specs.Refusals.{number_of}
+use Rattle.ground.specs.declared.refusals.Refusal.{Refusal}
+use Rattle.ground.specs.declared.refusals.Refusal.TheVariants as refusal
 use Rattle.values.specs.declared.pages.Page.{Page}
 use Rattle.values.specs.declared.pages.Page.TheVariants.{Unknown}
 use Rattle.rows.specs.Forms.{direct}
@@ -12,30 +14,14 @@ use Rattle.instruction.specs.declared.Values.{Values}
 use Rattle.instruction.specs.declared.Record.{Record}
 use Rattle.instruction.specs.declared.Instruction.{Instruction}
 use Rattle.instruction.specs.declared.Chosen.{Chosen}
-use Rattle.instruction.specs.declared.Made.{Made}
 use Rattle.instruction.specs.declared.Built.{Built}
+use Rattle.instruction.specs.declared.Refused.{Refused}
 use Rattle.instruction.specs.declared.Placed.{Placed}
 use Rattle.instruction.specs.Names.{mode_extended, exg, tfr, puls, pulu}
 use Rattle.instruction.specs.Records.{recognised, lawful, sound}
 use Rattle.instruction.specs.Forms.{form_of, lacks, needs_value}
 use Rattle.instruction.specs.Choosing.{register_at, choose_of}
-use Rattle.instruction.specs.Bytes.{none, laid_of}
-
--- nothing, beside a refusal
-abbrev pub no_operand : Operand
-no_operand = record {
-  operation = 0;
-  mode = 0;
-  indirect = false;
-  forced = false;
-  registers = replicate 8 0;
-  count = 0;
-  step = 0;
-  widening = false;
-}
-
-abbrev pub no_instruction : Instruction
-no_instruction = record { operand = no_operand; form = 0; trial = false; widened = false }
+use Rattle.instruction.specs.Bytes.{laid_of}
 
 unfoldable pub no_values : Values
 no_values = record { given = false; unsigned = record { number = 0; width = 0 }; signed = record { number = 0; width = 0 } }
@@ -46,31 +32,28 @@ unfoldable pub instruction_of : Operand → ℕ → Instruction
 instruction_of o form =
     record { operand = o; form = form; trial = eqb o.mode mode_extended && eqb form direct; widened = false }
 
-abbrev pub unmade : ℕ → Made
-unmade n = record { refusal = n; instruction = no_instruction }
-
 -- 1, then 2
-unfoldable pub made_as : Operand → ℕ → Made
-made_as o form = pick (lacks o form) (unmade no_such_mode) (record { refusal = 0; instruction = instruction_of o form })
+unfoldable pub made_as : Operand → ℕ → Result Instruction Refusal
+made_as o form = pick (lacks o form) (Err refusal.NoSuchMode) (Ok (instruction_of o form))
 
-unfoldable pub make_of : Record → Made
+unfoldable pub make_of : Record → Result Instruction Refusal
 make_of r =
     pick (recognised r.operand && lawful r.values)
     (made_as r.operand (form_of r.operand r.values r.page))
-    (unmade unknown)
+    (Err refusal.Unknown)
 
 -- 1 and 2 as they are told before any value is evaluated: a value chooses between Direct and Extended alone, and a row has both or none
-unfoldable pub operand_refusal : Operand → ℕ
-operand_refusal o = pick (recognised o) (pick (lacks o (form_of o no_values Unknown)) no_such_mode 0) unknown
+unfoldable pub operand_refusal : Operand → Option Refusal
+operand_refusal o = pick (recognised o) (pick (lacks o (form_of o no_values Unknown)) (Some refusal.NoSuchMode) None) (Some refusal.Unknown)
 
 -- ---- build
--- 1, 2 and 3, in this order; 0 is none of them
-unfoldable pub early_of : Instruction → Values → ℕ
+-- 1, 2 and 3, in this order
+unfoldable pub early_of : Instruction → Values → Result ⊤ Refusal
 early_of i v =
     pick (sound i v)
-    (pick (lacks i.operand i.form) no_such_mode
-    (pick (needs_value i.operand.mode i.form && not v.given) value_missing 0))
-    unknown
+    (pick (lacks i.operand i.form) (Err refusal.NoSuchMode)
+    (pick (needs_value i.operand.mode i.form && not v.given) (Err refusal.ValueMissing) (Ok tt)))
+    (Err refusal.Unknown)
 
 -- "DP is dirtied by TFR to DP, and by EXG, PULS, PULU naming DP"; "An operation that dirtied the page now makes it unknown."
 unfoldable pub dirties_of : Operand → Bool
@@ -78,54 +61,83 @@ dirties_of o =
     pick (eqb o.operation tfr) (eqb (register_at o 1) DP)
     (pick (eqb o.operation exg || (eqb o.operation puls || eqb o.operation pulu)) (among DP (take o.count o.registers)) false)
 
--- a refusal hands the instruction back unchanged, with zeros
-abbrev pub refused_with : Instruction → ℕ → Built
-refused_with i n =
-    record { refusal = n; instruction = i; bytes = none.bytes; length = 0; dirties = false }
-
 -- "It keeps its mode, its trial mark and a widening."
 unfoldable pub accepted_of : Instruction → Chosen → ℕ → Built
 accepted_of i c address = record {
-  refusal = 0;
   instruction = record { operand = i.operand; form = c.form; trial = c.trial; widened = c.widened };
   bytes = (laid_of c address).bytes;
   length = (laid_of c address).length;
   dirties = dirties_of i.operand;
 }
 
-unfoldable pub finished_of : Instruction → Chosen → ℕ → Built
-finished_of i c address = pick (eqb c.refusal 0) (accepted_of i c address) (refused_with i c.refusal)
+abbrev pub finished_of : Instruction → Result Chosen Refusal → ℕ → Result Built Refusal
+finished_of i (Ok c) address = Ok (accepted_of i c address)
+finished_of i (Err n) address = Err n
 
-unfoldable pub build_of : Instruction → Values → Page → ℕ → Built
-build_of i v page address =
-    pick (eqb (early_of i v) 0) (finished_of i (choose_of i v page address) address) (refused_with i (early_of i v))
+-- what 1, 2 and 3 let through
+abbrev pub after : {A : Type 0} → Result ⊤ Refusal → Result A Refusal → Result A Refusal
+after (Ok passed) later = later
+after (Err n) later = Err n
 
--- what is handed out of a build whose instruction nobody had before
-unfoldable pub handed : Built → Built
-handed b = pick (eqb b.refusal 0) b (refused_with no_instruction b.refusal)
+-- what a build comes to, beside whose refusal nothing is told
+unfoldable pub tried_of : Instruction → Values → Page → ℕ → Result Built Refusal
+tried_of i v page address = after (early_of i v) (finished_of i (choose_of i v page address) address)
+
+-- a refusal hands the instruction back unchanged
+abbrev pub refused_with : Instruction → Refusal → Refused
+refused_with i n = record { instruction = i; refusal = n }
+
+abbrev pub handing : Instruction → Result Built Refusal → Result Built Refused
+handing i (Ok b) = Ok b
+handing i (Err n) = Err (refused_with i n)
+
+unfoldable pub build_of : Instruction → Values → Page → ℕ → Result Built Refused
+build_of i v page address = handing i (tried_of i v page address)
 
 -- a fresh instruction, made and built from one record; a refusal has nothing to hand back
-unfoldable pub fresh_from : Made → Record → ℕ → Built
-fresh_from m r address =
-    pick (eqb m.refusal 0)
-    (handed (build_of m.instruction r.values r.page address))
-    (refused_with no_instruction m.refusal)
+abbrev pub fresh_from : Result Instruction Refusal → Record → ℕ → Result Built Refusal
+fresh_from (Ok i) r address = tried_of i r.values r.page address
+fresh_from (Err n) r address = Err n
 
-unfoldable pub fresh_of : Record → ℕ → Built
+unfoldable pub fresh_of : Record → ℕ → Result Built Refusal
 fresh_of r address = fresh_from (make_of r) r address
 
--- ---- into a lent buffer
+-- ---- what is told of an answer that may be a refusal
+-- the number of the refusal, 0 where there is none
+abbrev pub told : {A : Type 0} → Result A Refusal → ℕ
+told (Ok a) = 0
+told (Err n) = number_of n
+
+-- the bytes of a build and how many they are, none beside a refusal; and whether it dirties the page
 abbrev pub bytes_in : Built → List ℕ
 bytes_in b = take b.length b.bytes
 
-abbrev pub unplaced : Instruction → ℕ → Placed
-unplaced i n = record { refusal = n; instruction = i; length = 0; dirties = false }
+abbrev pub bytes_told : Result Built Refusal → List ℕ
+bytes_told (Ok b) = bytes_in b
+bytes_told (Err n) = []
 
+abbrev pub size_told : Result Built Refusal → ℕ
+size_told (Ok b) = b.length
+size_told (Err n) = 0
+
+abbrev pub dirties_told : Result Built Refusal → Bool
+dirties_told (Ok b) = b.dirties
+dirties_told (Err n) = false
+
+-- ---- into a lent buffer
 -- 9 comes last, and leaves the instruction and the buffer as they were
-unfoldable pub placed_of : Instruction → Built → ℕ → Placed
-placed_of i b room =
-    pick (ltb room b.length) (unplaced i no_room)
-    (record { refusal = b.refusal; instruction = b.instruction; length = b.length; dirties = b.dirties })
+unfoldable pub placed_as : Instruction → Built → ℕ → Result Placed Refused
+placed_as i b room =
+    pick (ltb room b.length) (Err (refused_with i refusal.NoRoom))
+    (Ok (record { instruction = b.instruction; length = b.length; dirties = b.dirties }))
 
-unfoldable pub buffer_of : Built → List ℕ → List ℕ
-buffer_of b d = pick (ltb (length d) b.length) d (bytes_in b ++ drop b.length d)
+abbrev pub placed_of : Instruction → Result Built Refused → ℕ → Result Placed Refused
+placed_of i (Ok b) room = placed_as i b room
+placed_of i (Err x) room = Err x
+
+unfoldable pub stored_of : Built → List ℕ → List ℕ
+stored_of b d = pick (ltb (length d) b.length) d (bytes_in b ++ drop b.length d)
+
+abbrev pub buffer_of : Result Built Refused → List ℕ → List ℕ
+buffer_of (Ok b) d = stored_of b d
+buffer_of (Err x) d = d

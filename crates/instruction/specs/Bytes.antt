@@ -1,9 +1,10 @@
 -- The bytes of what a build settled on, at its address: the code, on pages 10 and 11 behind its prefix, and the operand.
-use Rattle.std.specs.Prelude.{ℕ, ◌+◌, [], ◌∷◌, eqb, get_or}
+use Rattle.std.specs.Prelude.{ℕ, ◌+◌, Result, Ok, Err, [], ◌∷◌, eqb, get_or}
+use Rattle.std.specs.Result.{result_unwrap_or}
 use Rattle.ground.specs.Choice.{pick}
 use Rattle.ground.specs.Words.{plus, minus, high, low}
-use Rattle.rows.specs.declared.Coded.{Coded}
-use Rattle.rows.specs.declared.Coded.TheVariants.{Code, Unknown, Missing}
+use Rattle.ground.specs.declared.refusals.Refusal.{Refusal}
+use Rattle.rows.specs.declared.Code.{Code}
 use Rattle.rows.specs.Lookup.{code_of}
 use Rattle.rows.specs.Sizes.{number_size_of}
 use Rattle.postbytes.specs.declared.Encoded.{Encoded}
@@ -13,19 +14,23 @@ use Rattle.instruction.specs.declared.Laid.{Laid}
 use Rattle.instruction.specs.declared.Argument.{Argument}
 use Rattle.instruction.specs.declared.Argument.TheVariants.{Nothing, Number, Target, Indexed, Relative, Registers}
 
+-- no byte
+abbrev pub nothing : Encoded
+nothing = record { bytes = 0 ∷ 0 ∷ 0 ∷ []; length = 0 }
+
 -- a number in no byte, one or two
 unfoldable pub number_bytes : ℕ → ℕ → Encoded
 number_bytes size n =
-    pick (eqb size 1) (record { refusal = 0; bytes = low n ∷ 0 ∷ 0 ∷ []; length = 1 })
-    (pick (eqb size 2) (record { refusal = 0; bytes = high n ∷ low n ∷ 0 ∷ []; length = 2 })
-    (record { refusal = 0; bytes = 0 ∷ 0 ∷ 0 ∷ []; length = 0 }))
+    pick (eqb size 1) (record { bytes = low n ∷ 0 ∷ 0 ∷ []; length = 1 })
+    (pick (eqb size 2) (record { bytes = high n ∷ low n ∷ 0 ∷ []; length = 2 })
+    nothing)
 
--- the operand's bytes, the first of which stands at `after`; a branch counts from the end of the instruction
+-- the operand's bytes, the first of which stands at `after`; a branch counts from the end of the instruction. An operand that is refused has none
 unfoldable pub operand_bytes : ℕ → ℕ → Argument → ℕ → Encoded
 operand_bytes o form Nothing after = number_bytes 0 0
 operand_bytes o form (Number n) after = number_bytes (number_size_of o form) n
 operand_bytes o form (Target t) after = number_bytes (number_size_of o form) (minus t (plus after (number_size_of o form)))
-operand_bytes o form (Indexed index) after = encode_of index
+operand_bytes o form (Indexed index) after = result_unwrap_or (encode_of index) nothing
 operand_bytes o form (Relative target ind) after = relative_of target after ind
 operand_bytes o form (Registers b) after = alone b
 
@@ -45,11 +50,10 @@ behind_code page code e =
 abbrev pub none : Laid
 none = record { bytes = 0 ∷ 0 ∷ 0 ∷ 0 ∷ 0 ∷ []; length = 0 }
 
-unfoldable pub laid_at : Coded → Chosen → ℕ → Laid
-laid_at (Code page code) c address =
-    behind_code page code (operand_bytes c.operation c.form c.argument (plus address (code_size page)))
-laid_at Unknown c address = none
-laid_at Missing c address = none
+unfoldable pub laid_at : Result Code Refusal → Chosen → ℕ → Laid
+laid_at (Ok k) c address =
+    behind_code k.page k.code (operand_bytes c.operation c.form c.argument (plus address (code_size k.page)))
+laid_at (Err refusal) c address = none
 
 unfoldable pub laid_of : Chosen → ℕ → Laid
 laid_of c address = laid_at (code_of c.operation c.form) c address

@@ -1,20 +1,18 @@
 -- The quick ways of a build: what it asks first, so that it looks a row up once, and what it comes to without its operand. Nothing here has to be believed: proofs/Quick.antt
 -- shows that it comes to what Building.antt defines.
-use Rattle.std.specs.Prelude.{◌≡◌, Bool, true, ◌&&◌, not, ℕ, eqb, ltb}
+use Rattle.std.specs.Prelude.{◌≡◌, Bool, true, ◌&&◌, not, Result, ltb, Ok, Err}
 use Rattle.ground.specs.Choice.{pick}
 use Rattle.values.specs.Widths.{valid_of}
-use Rattle.rows.specs.declared.Coded.{Coded}
-use Rattle.rows.specs.Lookup.{is_code, has_form_of}
+use Rattle.ground.specs.declared.refusals.Refusal.{Refusal}
+use Rattle.rows.specs.Lookup.{has_form_of}
 use Rattle.postbytes.specs.Lists.{strange_list}
 use Rattle.instruction.specs.declared.Operand.{Operand}
 use Rattle.instruction.specs.declared.Values.{Values}
 use Rattle.instruction.specs.declared.Instruction.{Instruction}
-use Rattle.instruction.specs.declared.Chosen.{Chosen}
 use Rattle.instruction.specs.declared.Built.{Built}
 use Rattle.instruction.specs.declared.Outcome.{Outcome}
 use Rattle.instruction.specs.Records.{stepped, agreeing}
 use Rattle.instruction.specs.Forms.{strays, needs_value}
-use Rattle.instruction.specs.Building.{early_of}
 
 -- what 1 asks of an operand beside its operation
 unfoldable pub regular : Operand → Bool
@@ -36,18 +34,13 @@ valued i v = pick v.given (matched v) (not (needs_value i.operand.mode i.form))
 unfoldable pub fit : Instruction → Values → Bool
 fit i v = regular i.operand && (ltb i.form 7 && (valued i v && not (strays i.operand.mode i.form)))
 
--- the code of what was chosen tells that the instruction's row has its form
-abbrev pub CodeTells : Instruction → Values → Chosen → Coded → Type 0
-CodeTells i v c coded = fit i v ≡ true → is_code coded ≡ true → c.refusal ≡ 0 → has_form_of i.operand.operation i.form ≡ true
+-- a code that was found, of what was chosen, tells that the instruction's row has its form
+abbrev pub CodeTells : Instruction → Values → Bool → Type 0
+CodeTells i v found = fit i v ≡ true → found ≡ true → has_form_of i.operand.operation i.form ≡ true
 
--- 1, 2 and 3, then what choosing refuses; 0 is none of them
-unfoldable pub first_refusal : Instruction → Values → Chosen → ℕ
-first_refusal i v c = pick (eqb (early_of i v) 0) c.refusal (early_of i v)
-
--- a build but for the operand, which it never changes
-abbrev pub outcome_of : Built → Outcome
-outcome_of b = record {
-  refusal = b.refusal;
+-- an accepted build but for the operand, which it never changes
+abbrev pub without_operand : Built → Outcome
+without_operand b = record {
   form = b.instruction.form;
   trial = b.instruction.trial;
   widened = b.instruction.widened;
@@ -56,10 +49,13 @@ outcome_of b = record {
   dirties = b.dirties;
 }
 
+abbrev pub outcome_of : Result Built Refusal → Result Outcome Refusal
+outcome_of (Ok b) = Ok (without_operand b)
+outcome_of (Err n) = Err n
+
 -- an instruction that took on what a build came to
 abbrev pub with_outcome : Instruction → Outcome → Built
 with_outcome i out = record {
-  refusal = out.refusal;
   instruction = record { operand = i.operand; form = out.form; trial = out.trial; widened = out.widened };
   bytes = out.bytes;
   length = out.length;

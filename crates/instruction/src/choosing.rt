@@ -1,37 +1,24 @@
 // What one build settles on: a form with its argument, or a refusal.
 ghost use Rattle.std.specs.Prelude.{◌≡◌};
 ghost use Rattle.postbytes.specs.Registers.{not_indexing};
-ghost use Rattle.instruction.specs.Choosing.{refuse, settled, inherent_of, immediate_of, forced_wide, leaves_direct, stays_direct, directly_of, anew_as, anew_of, address_of, long_branch, branch_of, offset_value, accumulator_index, offset_index, target_index, step_index, address_index, index_of, is_pair, own_stack, listed_of, registers_of, choose_of};
+ghost use Rattle.instruction.specs.Choosing.{settled, inherent_of, immediate_of, forced_wide, leaves_direct, stays_direct, directly_of, anew_as, anew_of, address_of, long_branch, branch_of, offset_value, accumulator_index, offset_index, target_index, step_index, address_index, index_of, is_pair, own_stack, listed_of, registers_of, choose_of};
 
 use crate::forms::becomes_direct;
 use crate::names::*;
 use crate::{Argument, Chosen, Instruction, Operand, Values};
-use ground::{refusals, words};
+use ground::refusals::Refusal;
+use ground::words;
+use postbytes::Index;
 use postbytes::numbers::{PC, S, U, X};
-use postbytes::{Index, Listed};
 use rows::forms::*;
 use values::Value;
 use values::pages::Page;
-
-fn refused(n: u8) -> Chosen
-    ensures { result ≡ refuse n }
-{
-    Chosen {
-        refusal: n,
-        operation: 0,
-        form: 0,
-        trial: false,
-        widened: false,
-        argument: Argument::Nothing,
-    }
-}
 
 fn settle(i: Instruction, form: u8, argument: Argument) -> Chosen
     ensures { result ≡ settled i form argument }
 {
     let o = i.operand;
     Chosen {
-        refusal: 0,
         operation: o.operation,
         form,
         trial: i.trial,
@@ -40,16 +27,18 @@ fn settle(i: Instruction, form: u8, argument: Argument) -> Chosen
     }
 }
 
-fn inherent(i: Instruction, v: Values) -> Chosen
+#[tactic(auto, unfolding(crate::specs::Choosing::inherent_of, ground::specs::Choice::pick))]
+fn inherent(i: Instruction, v: Values) -> Result<Chosen, Refusal>
     ensures { result ≡ inherent_of i v }
 {
     if v.given {
-        return refused(refusals::BAD_WIDTH);
+        return Err(Refusal::BadWidth);
     }
-    settle(i, INHERENT, Argument::Nothing)
+    Ok(settle(i, INHERENT, Argument::Nothing))
 }
 
-fn immediate(i: Instruction, v: Values) -> Chosen
+#[tactic(auto, unfolding(crate::specs::Choosing::immediate_of, ground::specs::Choice::pick))]
+fn immediate(i: Instruction, v: Values) -> Result<Chosen, Refusal>
     ensures { result ≡ immediate_of i v }
 {
     let o = i.operand;
@@ -57,12 +46,13 @@ fn immediate(i: Instruction, v: Values) -> Chosen
     let narrow = rows::sizes::number_size(o.operation, IMMEDIATE) == 1;
     let wide = narrow & (255 < u.number);
     if wide {
-        return refused(refusals::BAD_WIDTH);
+        return Err(Refusal::BadWidth);
     }
-    settle(i, IMMEDIATE, Argument::Number(u.number))
+    Ok(settle(i, IMMEDIATE, Argument::Number(u.number)))
 }
 
 // "under known page 0 only": under any other page every right value is wide.
+#[tactic(auto, unfolding(crate::specs::Choosing::forced_wide, ground::specs::Choice::pick))]
 fn is_forced_wide(i: Instruction, v: Values, page: Page) -> bool
     ensures { result ≡ forced_wide i v page }
 {
@@ -72,55 +62,58 @@ fn is_forced_wide(i: Instruction, v: Values, page: Page) -> bool
 }
 
 // On trial an address that Direct does not reach is Extended after all. No call sets the mark in parser mode Direct; a row that has it is built by 01's rule.
-fn leave_direct(i: Instruction, v: Values) -> Chosen
+#[tactic(auto, unfolding(crate::specs::Choosing::leaves_direct, ground::specs::Choice::pick))]
+fn leave_direct(i: Instruction, v: Values) -> Result<Chosen, Refusal>
     ensures { result ≡ leaves_direct i v }
 {
     let o = i.operand;
     let u = v.unsigned;
     if i.trial {
-        return Chosen {
-            refusal: 0,
+        return Ok(Chosen {
             operation: o.operation,
             form: EXTENDED,
             trial: false,
             widened: i.widened,
             argument: Argument::Number(u.number),
-        };
+        });
     }
-    refused(refusals::DIRECT_NOT_ALLOWED)
+    Err(Refusal::DirectNotAllowed)
 }
 
 // What is Direct stays so where its page and its value allow.
-fn stay_direct(i: Instruction, v: Values, page: Page) -> Chosen
+#[tactic(auto, unfolding(crate::specs::Choosing::stays_direct, ground::specs::Choice::pick))]
+fn stay_direct(i: Instruction, v: Values, page: Page) -> Result<Chosen, Refusal>
     ensures { result ≡ stays_direct i v page }
 {
     let u = v.unsigned;
     if page.reaches(u.number) {
         if is_forced_wide(i, v, page) {
-            return refused(refusals::BAD_WIDTH);
+            return Err(Refusal::BadWidth);
         }
-        return settle(i, DIRECT, Argument::Number(u.number));
+        return Ok(settle(i, DIRECT, Argument::Number(u.number)));
     }
     leave_direct(i, v)
 }
 
 // Parser mode Direct.
-fn directly(i: Instruction, v: Values, page: Page) -> Chosen
+#[tactic(auto, unfolding(crate::specs::Choosing::directly_of, ground::specs::Choice::pick))]
+fn directly(i: Instruction, v: Values, page: Page) -> Result<Chosen, Refusal>
     ensures { result ≡ directly_of i v page }
 {
     let o = i.operand;
     let u = v.unsigned;
     let number = u.number;
     if becomes_direct(o, v, page) {
-        return settle(i, DIRECT, Argument::Number(number));
+        return Ok(settle(i, DIRECT, Argument::Number(number)));
     }
     if i.form == DIRECT {
         return stay_direct(i, v, page);
     }
-    settle(i, EXTENDED, Argument::Number(number))
+    Ok(settle(i, EXTENDED, Argument::Number(number)))
 }
 
 // A form that is chosen anew: the mark says that Direct was.
+#[tactic(auto, unfolding(crate::specs::Choosing::anew_as, ground::specs::Choice::pick))]
 fn anew_as(i: Instruction, v: Values, form: u8) -> Chosen
     ensures { result ≡ anew_as i v form }
 {
@@ -128,7 +121,6 @@ fn anew_as(i: Instruction, v: Values, form: u8) -> Chosen
     let u = v.unsigned;
     let trial = (o.mode == MODE_EXTENDED) & (form == DIRECT);
     Chosen {
-        refusal: 0,
         operation: o.operation,
         form,
         trial,
@@ -138,6 +130,7 @@ fn anew_as(i: Instruction, v: Values, form: u8) -> Chosen
 }
 
 // Any other mode: the form is chosen anew at each build, as a fresh instruction's is.
+#[tactic(auto, unfolding(crate::specs::Choosing::anew_of, ground::specs::Choice::pick))]
 fn anew(i: Instruction, v: Values, page: Page) -> Chosen
     ensures { result ≡ anew_of i v page }
 {
@@ -148,24 +141,25 @@ fn anew(i: Instruction, v: Values, page: Page) -> Chosen
     anew_as(i, v, EXTENDED)
 }
 
-fn address(i: Instruction, v: Values, page: Page) -> Chosen
+#[tactic(auto, unfolding(crate::specs::Choosing::address_of, ground::specs::Choice::pick))]
+fn address(i: Instruction, v: Values, page: Page) -> Result<Chosen, Refusal>
     ensures { result ≡ address_of i v page }
 {
     let o = i.operand;
     if o.mode == MODE_DIRECT {
         return directly(i, v, page);
     }
-    anew(i, v, page)
+    Ok(anew(i, v, page))
 }
 
 // A short branch that was made long, now or in an earlier build.
+#[tactic(auto, unfolding(crate::specs::Choosing::long_branch, ground::specs::Choice::pick))]
 fn long_branch(i: Instruction, v: Values) -> Chosen
     ensures { result ≡ long_branch i v }
 {
     let o = i.operand;
     let u = v.unsigned;
     Chosen {
-        refusal: 0,
         operation: rows::sizes::long_of(o.operation),
         form: RELATIVE,
         trial: i.trial,
@@ -174,7 +168,8 @@ fn long_branch(i: Instruction, v: Values) -> Chosen
     }
 }
 
-fn branch(i: Instruction, v: Values, at: u16) -> Chosen
+#[tactic(auto, unfolding(crate::specs::Choosing::branch_of, ground::specs::Choice::pick))]
+fn branch(i: Instruction, v: Values, at: u16) -> Result<Chosen, Refusal>
     ensures { result ≡ branch_of i v at }
 {
     let o = i.operand;
@@ -182,18 +177,18 @@ fn branch(i: Instruction, v: Values, at: u16) -> Chosen
     let target = u.number;
     let long = rows::sizes::number_size(o.operation, RELATIVE) == 2;
     if long {
-        return settle(i, RELATIVE, Argument::Target(target));
+        return Ok(settle(i, RELATIVE, Argument::Target(target)));
     }
     if i.widened {
-        return long_branch(i, v);
+        return Ok(long_branch(i, v));
     }
     if postbytes::encoding::near(words::sub(target, words::add(at, 2))) {
-        return settle(i, RELATIVE, Argument::Target(target));
+        return Ok(settle(i, RELATIVE, Argument::Target(target)));
     }
     if o.widening {
-        return long_branch(i, v);
+        return Ok(long_branch(i, v));
     }
-    refused(refusals::BRANCH_TOO_FAR)
+    Err(Refusal::BranchTooFar)
 }
 
 // None of X, Y, U, S.
@@ -204,6 +199,7 @@ fn is_misplaced(register: u8) -> bool
 }
 
 // The width rule: an offset has the number and the width of its signed evaluation. A missing offset is an 8-bit zero.
+#[tactic(auto, unfolding(crate::specs::Choosing::offset_value, ground::specs::Choice::pick))]
 pub fn offset_value(v: Values) -> Value
     ensures { result ≡ offset_value v }
 {
@@ -216,7 +212,8 @@ pub fn offset_value(v: Values) -> Value
     }
 }
 
-fn accumulator_index(i: Instruction) -> Chosen
+#[tactic(auto, unfolding(crate::specs::Choosing::accumulator_index, ground::specs::Choice::pick))]
+fn accumulator_index(i: Instruction) -> Result<Chosen, Refusal>
     ensures { result ≡ accumulator_index i }
 {
     let o = i.operand;
@@ -224,17 +221,18 @@ fn accumulator_index(i: Instruction) -> Chosen
     let register = o.registers[1];
     let wrong = !(o.count == 2) | ((3 <= accumulator) | is_misplaced(register));
     if wrong {
-        return refused(refusals::BAD_REGISTER);
+        return Err(Refusal::BadRegister);
     }
     let index = Index::Accumulator {
         register,
         indirect: o.indirect,
         accumulator,
     };
-    settle(i, INDEXED, Argument::Indexed(index))
+    Ok(settle(i, INDEXED, Argument::Indexed(index)))
 }
 
-fn offset_index(i: Instruction, v: Values) -> Chosen
+#[tactic(auto, unfolding(crate::specs::Choosing::offset_index, ground::specs::Choice::pick))]
+fn offset_index(i: Instruction, v: Values) -> Result<Chosen, Refusal>
     ensures { result ≡ offset_index i v }
 {
     let o = i.operand;
@@ -242,27 +240,28 @@ fn offset_index(i: Instruction, v: Values) -> Chosen
     let offset = offset_value(v);
     let crowded = !(o.count == 1);
     if crowded {
-        return refused(refusals::BAD_REGISTER);
+        return Err(Refusal::BadRegister);
     }
     if register == PC {
         let index = Index::Counter {
             indirect: o.indirect,
             offset,
         };
-        return settle(i, INDEXED, Argument::Indexed(index));
+        return Ok(settle(i, INDEXED, Argument::Indexed(index)));
     }
     if is_misplaced(register) {
-        return refused(refusals::BAD_REGISTER);
+        return Err(Refusal::BadRegister);
     }
     let index = Index::Offset {
         register,
         indirect: o.indirect,
         offset,
     };
-    settle(i, INDEXED, Argument::Indexed(index))
+    Ok(settle(i, INDEXED, Argument::Indexed(index)))
 }
 
-fn target_index(i: Instruction, v: Values) -> Chosen
+#[tactic(auto, unfolding(crate::specs::Choosing::target_index, ground::specs::Choice::pick))]
+fn target_index(i: Instruction, v: Values) -> Result<Chosen, Refusal>
     ensures { result ≡ target_index i v }
 {
     let o = i.operand;
@@ -273,32 +272,34 @@ fn target_index(i: Instruction, v: Values) -> Chosen
             target: u.number,
             indirect: o.indirect,
         };
-        return settle(i, INDEXED, target);
+        return Ok(settle(i, INDEXED, target));
     }
-    refused(refusals::BAD_REGISTER)
+    Err(Refusal::BadRegister)
 }
 
-fn step_index(i: Instruction) -> Chosen
+#[tactic(auto, unfolding(crate::specs::Choosing::step_index, ground::specs::Choice::pick))]
+fn step_index(i: Instruction) -> Result<Chosen, Refusal>
     ensures { result ≡ step_index i }
 {
     let o = i.operand;
     let register = o.registers[0];
     let single = o.indirect & ((o.step == 1) | (o.step == 3));
     if single {
-        return refused(refusals::SINGLE_STEP_INDIRECT);
+        return Err(Refusal::SingleStepIndirect);
     }
     let wrong = !(o.count == 1) | is_misplaced(register);
     if wrong {
-        return refused(refusals::BAD_REGISTER);
+        return Err(Refusal::BadRegister);
     }
     let index = Index::Step {
         register,
         indirect: o.indirect,
         step: o.step,
     };
-    settle(i, INDEXED, Argument::Indexed(index))
+    Ok(settle(i, INDEXED, Argument::Indexed(index)))
 }
 
+#[tactic(auto, unfolding(crate::specs::Choosing::address_index, ground::specs::Choice::pick))]
 fn address_index(i: Instruction, v: Values) -> Chosen
     ensures { result ≡ address_index i v }
 {
@@ -309,7 +310,8 @@ fn address_index(i: Instruction, v: Values) -> Chosen
     settle(i, INDEXED, Argument::Indexed(index))
 }
 
-fn index(i: Instruction, v: Values) -> Chosen
+#[tactic(auto, unfolding(crate::specs::Choosing::index_of, ground::specs::Choice::pick))]
+fn index(i: Instruction, v: Values) -> Result<Chosen, Refusal>
     ensures { result ≡ index_of i v }
 {
     let o = i.operand;
@@ -319,12 +321,13 @@ fn index(i: Instruction, v: Values) -> Chosen
         MODE_OFFSET => offset_index(i, v),
         MODE_PC_RELATIVE => target_index(i, v),
         MODE_INC_DEC => step_index(i),
-        _ => address_index(i, v),
+        _ => Ok(address_index(i, v)),
     }
 }
 
 // The postbyte of a register list: a pair for EXG and TFR, else the list of a push or a pull.
-fn listed(o: Operand) -> Listed
+#[tactic(auto, unfolding(crate::specs::Choosing::listed_of, ground::specs::Choice::pick))]
+fn listed(o: Operand) -> Result<u8, Refusal>
     ensures { result ≡ listed_of o }
 {
     let registers = o.registers;
@@ -334,12 +337,14 @@ fn listed(o: Operand) -> Listed
     postbytes::lists::push(own_stack(o.operation), registers, o.count)
 }
 
+#[tactic(auto, unfolding(crate::specs::Choosing::is_pair, ground::specs::Choice::pick))]
 pub(crate) fn is_pair(operation: u8) -> bool
     ensures { result ≡ is_pair operation }
 {
     (operation == EXG) | (operation == TFR)
 }
 
+#[tactic(auto, unfolding(crate::specs::Choosing::own_stack, ground::specs::Choice::pick))]
 fn own_stack(operation: u8) -> u8
     ensures { result ≡ own_stack operation }
 {
@@ -347,18 +352,17 @@ fn own_stack(operation: u8) -> u8
     if on_s { S } else { U }
 }
 
-fn registers(i: Instruction) -> Chosen
+#[tactic(auto, unfolding(crate::specs::Choosing::registers_of, ground::specs::Choice::pick))]
+fn registers(i: Instruction) -> Result<Chosen, Refusal>
     ensures { result ≡ registers_of i }
 {
     let o = i.operand;
-    let list = listed(o);
-    if list.refusal != 0 {
-        return refused(list.refusal);
-    }
-    settle(i, REGISTER, Argument::Registers(list.byte))
+    let byte = listed(o)?;
+    Ok(settle(i, REGISTER, Argument::Registers(byte)))
 }
 
-pub(crate) fn choose(i: Instruction, v: Values, page: Page, at: u16) -> Chosen
+#[tactic(auto, unfolding(crate::specs::Choosing::choose_of, ground::specs::Choice::pick))]
+pub(crate) fn choose(i: Instruction, v: Values, page: Page, at: u16) -> Result<Chosen, Refusal>
     ensures { result ≡ choose_of i v page at }
 {
     let form = i.form;

@@ -7,6 +7,7 @@ use crate::{Operand, Values};
 use rows::forms::*;
 use values::pages::Page;
 
+#[tactic(auto, unfolding(crate::specs::Forms::becomes_direct, ground::specs::Choice::pick))]
 pub(crate) fn becomes_direct(o: Operand, v: Values, page: Page) -> bool
     ensures { result ≡ becomes_direct o v page }
 {
@@ -14,6 +15,7 @@ pub(crate) fn becomes_direct(o: Operand, v: Values, page: Page) -> bool
     v.given & (!o.forced & page.reaches(u.number))
 }
 
+#[tactic(auto, unfolding(crate::specs::Forms::extended_form, ground::specs::Choice::pick))]
 fn extended_form(o: Operand, v: Values, page: Page) -> u8
     ensures { result ≡ extended_form o v page }
 {
@@ -31,6 +33,7 @@ fn extended_form(o: Operand, v: Values, page: Page) -> u8
 }
 
 // A list of registers, or else an accumulator's offset.
+#[tactic(auto, unfolding(crate::specs::Forms::register_form, ground::specs::Choice::pick))]
 fn register_form(o: Operand) -> u8
     ensures { result ≡ register_form o }
 {
@@ -40,6 +43,7 @@ fn register_form(o: Operand) -> u8
     INDEXED
 }
 
+#[tactic(auto, unfolding(crate::specs::Forms::form_of, ground::specs::Choice::pick))]
 pub(crate) fn form_for(o: Operand, v: Values, page: Page) -> u8
     ensures { result ≡ form_of o v page }
 {
@@ -55,18 +59,21 @@ pub(crate) fn form_for(o: Operand, v: Values, page: Page) -> u8
 }
 
 // A form that the parser's mode never has.
+#[tactic(auto, unfolding(crate::specs::Forms::strays, ground::specs::Choice::pick))]
 pub(crate) fn is_stray(mode: u8, form: u8) -> bool
     ensures { result ≡ strays mode form }
 {
     ((form == INDEXED) & (MODE_EXTENDED < mode)) | ((form == REGISTER) & !(mode == MODE_REGISTER))
 }
 
+#[tactic(auto, unfolding(crate::specs::Forms::lacks, ground::specs::Choice::pick))]
 pub(crate) fn is_lacking(o: Operand, form: u8) -> bool
     ensures { result ≡ lacks o form }
 {
     !rows::has_form(o.operation, form) | is_stray(o.mode, form)
 }
 
+#[tactic(auto, unfolding(crate::specs::Forms::needs_value, ground::specs::Choice::pick))]
 pub(crate) fn needs_value(mode: u8, form: u8) -> bool
     ensures { result ≡ needs_value mode form }
 {

@@ -8,24 +8,24 @@ pub mod names;
 pub mod validity;
 
 ghost use Rattle.std.specs.Prelude.{◌≡◌, length};
-ghost use Rattle.instruction.specs.Building.{no_operand, no_instruction, no_values, instruction_of, unmade, make_of, operand_refusal, dirties_of, refused_with, build_of, handed, fresh_of, placed_of, buffer_of};
-ghost use Rattle.instruction.specs.Quick.{CodeTells, first_refusal, outcome_of, with_outcome};
+ghost use Rattle.instruction.specs.Building.{no_values, instruction_of, make_of, operand_refusal, early_of, tried_of, dirties_of, build_of, fresh_of, placed_of, buffer_of};
+ghost use Rattle.instruction.specs.Quick.{CodeTells, outcome_of, with_outcome};
 
-use bytes::{is_code, lay};
+use bytes::lay;
 use choosing::choose;
 use forms::{form_for, is_lacking};
 use ground::buffers::store_all;
-use ground::refusals;
+use ground::refusals::Refusal;
 use names::*;
 use postbytes::Index;
 use postbytes::numbers::DP;
-use rows::Coded;
 use rows::forms::DIRECT;
 use validity::{is_fit, is_lawful, is_missing, is_recognised, is_sound};
 use values::Value;
 use values::pages::Page;
 
-// What a build does not change: the operand as the parser saw it. Any number in it may be wrong.
+// What a build does not change: the operand as the parser saw it. Its operation, mode, registers and step are numbers and no enums: a caller's row may hold anything, and
+// what is unknown is refused (docs/ROWS.md). Eight registers and how many count, as a row has them: memory is fixed.
 #[derive(Clone, Copy)]
 pub struct Operand {
     pub operation: u8,
@@ -38,7 +38,8 @@ pub struct Operand {
     pub widening: bool,
 }
 
-// The value of an operand, if it has one: its unsigned and its signed evaluation.
+// The value of an operand, if it has one: its unsigned and its signed evaluation. A flag and no Option, since that is no plainer: a form is chosen before it is asked
+// whether a value is missing, so that each choice would have to make up a number.
 #[derive(Clone, Copy)]
 pub struct Values {
     pub given: bool,
@@ -55,7 +56,8 @@ pub struct Record {
 }
 
 // A kept instruction: with its form, its trial mark and whether its short branch was made long. Of one that was made, the last is all that is remembered: the form
-// is what the operand asks for with the values and the page of the last accepted build, and the mark says that Direct was chosen for it (02 n).
+// is what the operand asks for with the values and the page of the last accepted build, and the mark says that Direct was chosen for it (02 n). The form is a number: a
+// caller's row may hold any (docs/ROWS.md).
 #[derive(Clone, Copy)]
 pub struct Instruction {
     pub operand: Operand,
@@ -64,25 +66,25 @@ pub struct Instruction {
     pub widened: bool,
 }
 
-#[derive(Clone, Copy)]
-pub struct Made {
-    pub refusal: u8,
-    pub instruction: Instruction,
-}
-
+// An accepted build: the instruction with its new form, trial mark and widening, and its bytes. Five bytes and their number: an instruction has at most five.
 #[derive(Clone, Copy)]
 pub struct Built {
-    pub refusal: u8,
     pub instruction: Instruction,
     pub bytes: [u8; 5],
     pub length: u8,
     pub dirties: bool,
 }
 
-// A build but for the operand, which it never changes. So that is not carried along.
+// A refused build: the instruction exactly as it came, and why.
+#[derive(Clone, Copy)]
+pub struct Refused {
+    pub instruction: Instruction,
+    pub refusal: Refusal,
+}
+
+// An accepted build but for the operand, which it never changes. So that is not carried along.
 #[derive(Clone, Copy)]
 struct Outcome {
-    refusal: u8,
     form: u8,
     trial: bool,
     widened: bool,
@@ -91,10 +93,9 @@ struct Outcome {
     dirties: bool,
 }
 
-// What a build into a lent buffer answers beside the bytes stored.
+// What an accepted build into a lent buffer answers beside the bytes stored.
 #[derive(Clone, Copy)]
 pub struct Placed {
-    pub refusal: u8,
     pub instruction: Instruction,
     pub length: u8,
     pub dirties: bool,
@@ -111,10 +112,9 @@ pub enum Argument {
     Registers(u8),
 }
 
-// What a build settles on: the operation whose bytes it emits, the form, the marks and the argument; or a refusal.
+// What a build settles on: the operation whose bytes it emits, the form, the marks and the argument.
 #[derive(Clone, Copy)]
 pub struct Chosen {
-    pub refusal: u8,
     pub operation: u8,
     pub form: u8,
     pub trial: bool,
@@ -122,40 +122,14 @@ pub struct Chosen {
     pub argument: Argument,
 }
 
-// Five bytes, and how many there are.
+// Five bytes, and how many there are: an instruction has at most five, and memory is fixed.
 #[derive(Clone, Copy)]
 pub struct Laid {
     pub bytes: [u8; 5],
     pub length: u8,
 }
 
-fn no_operand() -> Operand
-    ensures { result ≡ no_operand }
-{
-    Operand {
-        operation: 0,
-        mode: 0,
-        indirect: false,
-        forced: false,
-        registers: [0; 8],
-        count: 0,
-        step: 0,
-        widening: false,
-    }
-}
-
-fn no_instruction() -> Instruction
-    ensures { result ≡ no_instruction }
-{
-    let operand = no_operand();
-    Instruction {
-        operand,
-        form: 0,
-        trial: false,
-        widened: false,
-    }
-}
-
+#[tactic(auto, unfolding(crate::specs::Building::no_values))]
 fn no_values() -> Values
     ensures { result ≡ no_values }
 {
@@ -170,6 +144,7 @@ fn no_values() -> Values
     }
 }
 
+#[tactic(auto, unfolding(crate::specs::Building::instruction_of))]
 fn instruction_of(operand: Operand, form: u8) -> Instruction
     ensures { result ≡ instruction_of operand form }
 {
@@ -179,16 +154,6 @@ fn instruction_of(operand: Operand, form: u8) -> Instruction
         form,
         trial,
         widened: false,
-    }
-}
-
-fn unmade(n: u8) -> Made
-    ensures { result ≡ unmade n }
-{
-    let instruction = no_instruction();
-    Made {
-        refusal: n,
-        instruction,
     }
 }
 
@@ -210,37 +175,27 @@ fn dirties(o: Operand) -> bool
     false
 }
 
-fn refused(i: Instruction, n: u8) -> Built
-    ensures { result ≡ refused_with i n }
-{
-    Built {
-        refusal: n,
-        instruction: i,
-        bytes: [0; 5],
-        length: 0,
-        dirties: false,
-    }
-}
-
 impl Operand {
-    // 1 where a number is unknown, 2 where the row has no such mode, else 0: what is told of an operand before any value is evaluated.
-    pub fn refusal(self) -> u8
+    // Unknown where a number is, no such mode where the row has none: what is told of an operand before any value is evaluated.
+    #[tactic(auto, unfolding(crate::specs::Building::operand_refusal, ground::specs::Choice::pick))]
+    pub fn refusal(self) -> Option<Refusal>
         ensures { result ≡ operand_refusal self }
     {
         if is_recognised(self) {
             let form = form_for(self, no_values(), Page::Unknown);
             if is_lacking(self, form) {
-                return refusals::NO_SUCH_MODE;
+                return Some(Refusal::NoSuchMode);
             }
-            return 0;
+            return None;
         }
-        refusals::UNKNOWN
+        Some(Refusal::Unknown)
     }
 }
 
 impl Instruction {
-    // Makes an instruction of a record, in the form that it asks for: refused 1 where a number is wrong, then 2 where the row has no such mode.
-    pub fn make(r: Record) -> Made
+    // Makes an instruction of a record, in the form that it asks for: refused where a number is wrong, then where the row has no such mode.
+    #[tactic(auto, unfolding(crate::specs::Building::make_of, crate::specs::Building::made_as, ground::specs::Choice::pick))]
+    pub fn make(r: Record) -> Result<Instruction, Refusal>
         ensures { result ≡ make_of r }
     {
         let o = r.operand;
@@ -250,70 +205,63 @@ impl Instruction {
         if known {
             let form = form_for(o, v, page);
             if is_lacking(o, form) {
-                return unmade(refusals::NO_SUCH_MODE);
+                return Err(Refusal::NoSuchMode);
             }
-            let instruction = instruction_of(o, form);
-            return Made {
-                refusal: 0,
-                instruction,
-            };
+            return Ok(instruction_of(o, form));
         }
-        unmade(refusals::UNKNOWN)
+        Err(Refusal::Unknown)
     }
 
-    // The first refusal in 01's order, 0 where there is none. A row whose code was found is known and has the form, so that it is asked for 1 and 2 only if
-    // something is wrong.
-    fn first_refusal(self, v: Values, c: Chosen, coded: Coded) -> u8
-        requires { CodeTells self v c coded }
-        ensures { result ≡ first_refusal self v c }
+    // What 01 refuses before anything is chosen, in its order. A row whose code was found is known and has the form, so that the row is asked only if something is wrong.
+    #[tactic(auto, using(crate::proofs::Quick::fit_early), unfolding(crate::specs::Building::early_of, crate::specs::Quick::misses, ground::specs::Choice::pick))]
+    fn early(self, v: Values, found: bool) -> Result<(), Refusal>
+        requires { CodeTells self v found }
+        ensures { result ≡ early_of self v }
     {
         let o = self.operand;
-        let fine = is_fit(self, v) & (is_code(coded) & (c.refusal == 0));
+        let fine = is_fit(self, v) & found;
         if fine {
-            return 0;
+            return Ok(());
         }
         let unsound = !is_sound(self, v);
         if unsound {
-            return refusals::UNKNOWN;
+            return Err(Refusal::Unknown);
         }
         if is_lacking(o, self.form) {
-            return refusals::NO_SUCH_MODE;
+            return Err(Refusal::NoSuchMode);
         }
         if is_missing(self, v) {
-            return refusals::VALUE_MISSING;
+            return Err(Refusal::ValueMissing);
         }
-        c.refusal
+        Ok(())
     }
 
-    // What a build comes to: the first refusal with the form and the marks as they were, or what is chosen, with its bytes behind the row's code.
-    fn outcome(self, v: Values, page: Page, address: u16) -> Outcome
-        ensures { result ≡ outcome_of (build_of self v page address) }
+    // What a build comes to: the first refusal, or what is chosen, with its bytes behind the row's code.
+    #[tactic(auto, unfolding(crate::specs::Building::tried_of, crate::specs::Building::accepted_of, crate::specs::Bytes::laid_of))]
+    fn outcome(self, v: Values, page: Page, address: u16) -> Result<Outcome, Refusal>
+        ensures { result ≡ outcome_of (tried_of self v page address) }
     {
-        let c = choose(self, v, page, address);
-        let coded = rows::code_of(c.operation, c.form);
-        let n = self.first_refusal(v, c, coded);
-        if n != 0 {
-            return Outcome {
-                refusal: n,
-                form: self.form,
-                trial: self.trial,
-                widened: self.widened,
-                bytes: [0; 5],
-                length: 0,
-                dirties: false,
-            };
-        }
-        let o = self.operand;
-        let laid = lay(c, coded, address);
-        let bytes = laid.bytes;
-        Outcome {
-            refusal: 0,
-            form: c.form,
-            trial: c.trial,
-            widened: c.widened,
-            bytes,
-            length: laid.length,
-            dirties: dirties(o),
+        let chosen = choose(self, v, page, address);
+        match chosen {
+            Ok(c) => {
+                let coded = rows::code_of(c.operation, c.form);
+                self.early(v, coded.is_ok())?;
+                let o = self.operand;
+                let laid = lay(c, coded, address);
+                let bytes = laid.bytes;
+                Ok(Outcome {
+                    form: c.form,
+                    trial: c.trial,
+                    widened: c.widened,
+                    bytes,
+                    length: laid.length,
+                    dirties: dirties(o),
+                })
+            }
+            Err(later) => {
+                self.early(v, false)?;
+                Err(later)
+            }
         }
     }
 
@@ -326,7 +274,6 @@ impl Instruction {
         self.trial = out.trial;
         self.widened = out.widened;
         Built {
-            refusal: out.refusal,
             instruction: self,
             bytes,
             length: out.length,
@@ -334,62 +281,63 @@ impl Instruction {
         }
     }
 
-    // The instruction is taken by value and handed back, with its new form, trial mark and widening beside its bytes. A refusal hands it back
-    // unchanged, with zeros.
-    pub fn build(mut self, v: Values, page: Page, address: u16) -> Built
+    // The instruction is taken by value and handed back, with its new form, trial mark and widening beside its bytes. A refusal hands it back unchanged.
+    #[tactic(auto, using(crate::proofs::Quick::accepted_whole, crate::proofs::Quick::refused_whole), unfolding(crate::specs::Building::build_of))]
+    pub fn build(mut self, v: Values, page: Page, address: u16) -> Result<Built, Refused>
         ensures { result ≡ build_of self v page address }
     {
         let out = self.outcome(v, page, address);
-        self.with(out)
+        match out {
+            Ok(accepted) => Ok(self.with(accepted)),
+            Err(refusal) => Err(Refused {
+                instruction: self,
+                refusal,
+            }),
+        }
     }
 }
 
-// Builds into the front of a lent buffer: 9 comes last, and leaves the instruction and the buffer as they were.
-pub fn build_into(i: Instruction, v: Values, page: Page, address: u16, out: &mut [u8]) -> Placed
+// Builds into the front of a lent buffer: the refusal for want of room comes last, and each leaves the instruction and the buffer as they were.
+#[tactic(auto, using(crate::proofs::Padded::built_within, crate::proofs::Padded::front_all), unfolding(crate::specs::Building::placed_as, crate::specs::Building::stored_of, ground::specs::Choice::pick))]
+pub fn build_into(
+    i: Instruction,
+    v: Values,
+    page: Page,
+    address: u16,
+    out: &mut [u8],
+) -> Result<Placed, Refused>
     ensures answer { result ≡ placed_of i (build_of i v page address) (length out.old) }
     ensures buffer { out.new ≡ buffer_of (build_of i v page address) out.old }
 {
-    let built = i.build(v, page, address);
+    let built = i.build(v, page, address)?;
     let instruction = built.instruction;
     let bytes = built.bytes;
     let length = built.length;
     let end = length as usize;
     if out.len() < end {
-        return Placed {
-            refusal: refusals::NO_ROOM,
+        return Err(Refused {
             instruction: i,
-            length: 0,
-            dirties: false,
-        };
+            refusal: Refusal::NoRoom,
+        });
     }
     store_all(out, 0, &bytes[..end]);
-    Placed {
-        refusal: built.refusal,
+    Ok(Placed {
         instruction,
         length,
         dirties: built.dirties,
-    }
+    })
 }
 
-// What is handed out of a build whose instruction nobody had before.
-fn handed(built: Built) -> Built
-    ensures { result ≡ handed built }
-{
-    if built.refusal != 0 {
-        return refused(no_instruction(), built.refusal);
-    }
-    built
-}
-
-// A fresh instruction, made and built from one record. What making refuses, the build refuses alike. It asks for the outcome itself, and not through `build`: what two
-// ask for stays a function of its own, and `build` is then small enough to be compiled into its callers.
-pub fn assemble(r: Record, address: u16) -> Built
+// A fresh instruction, made and built from one record; beside a refusal nobody had one to hand back. What making refuses, the build refuses alike. It asks for the outcome
+// itself, and not through `build`: what two ask for stays a function of its own, and `build` is then small enough to be compiled into its callers.
+#[tactic(auto, using(crate::proofs::Ready::fresh_built, crate::proofs::Quick::accepted_whole, crate::proofs::Quick::refused_whole))]
+pub fn assemble(r: Record, address: u16) -> Result<Built, Refusal>
     ensures { result ≡ fresh_of r address }
 {
     let o = r.operand;
     let v = r.values;
     let page = r.page;
     let i = instruction_of(o, form_for(o, v, page));
-    let out = i.outcome(v, page, address);
-    handed(i.with(out))
+    let out = i.outcome(v, page, address)?;
+    Ok(i.with(out))
 }

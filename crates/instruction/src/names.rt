@@ -1,4 +1,4 @@
-// Parser modes, and rows of register lists, by number (docs/ROWS.md).
+// Parser modes, and rows of register lists, by number and no enum: a caller's row may hold any number (docs/ROWS.md).
 pub const MODE_REGISTER: u8 = 0;
 
 pub const MODE_OFFSET: u8 = 1;

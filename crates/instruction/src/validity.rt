@@ -8,6 +8,7 @@ use crate::names::MODE_INC_DEC;
 use crate::{Instruction, Operand, Values};
 use postbytes::lists;
 
+#[tactic(auto, unfolding(crate::specs::Records::stepped, ground::specs::Choice::pick))]
 pub fn is_stepped(o: Operand) -> bool
     ensures { result ≡ stepped o }
 {
@@ -15,6 +16,7 @@ pub fn is_stepped(o: Operand) -> bool
 }
 
 // What 1 asks of an operand beside its operation.
+#[tactic(auto, unfolding(crate::specs::Quick::regular, ground::specs::Choice::pick))]
 fn is_regular(o: Operand) -> bool
     ensures { result ≡ regular o }
 {
@@ -22,6 +24,7 @@ fn is_regular(o: Operand) -> bool
     (o.mode < 8) & (!lists::strange(registers, o.count) & is_stepped(o))
 }
 
+#[tactic(auto, unfolding(crate::specs::Records::recognised, crate::specs::Quick::regular, ground::specs::Choice::pick))]
 pub(crate) fn is_recognised(o: Operand) -> bool
     ensures { result ≡ recognised o }
 {
@@ -29,6 +32,7 @@ pub(crate) fn is_recognised(o: Operand) -> bool
 }
 
 // The two evaluations fit their widths, and agree as far as the narrower of them goes. Two of 16 bits fit, and need only be equal.
+#[tactic(auto, unfolding(crate::specs::Quick::matched, values::specs::Widths::valid_of, values::specs::Widths::bits_of, crate::specs::Records::agreeing, crate::specs::Records::narrower, ground::specs::Choice::pick))]
 fn is_matched(v: Values) -> bool
     ensures { result ≡ matched v }
 {
@@ -41,6 +45,7 @@ fn is_matched(v: Values) -> bool
     u.valid() & (s.valid() & (u.number % 256 == s.number % 256))
 }
 
+#[tactic(auto, unfolding(crate::specs::Records::lawful, crate::specs::Quick::matched, ground::specs::Choice::pick))]
 pub(crate) fn is_lawful(v: Values) -> bool
     ensures { result ≡ lawful v }
 {
@@ -50,6 +55,7 @@ pub(crate) fn is_lawful(v: Values) -> bool
     true
 }
 
+#[tactic(auto, unfolding(crate::specs::Records::sound, ground::specs::Choice::pick))]
 pub(crate) fn is_sound(i: Instruction, v: Values) -> bool
     ensures { result ≡ sound i v }
 {
@@ -57,6 +63,7 @@ pub(crate) fn is_sound(i: Instruction, v: Values) -> bool
     is_recognised(o) & ((i.form < 7) & is_lawful(v))
 }
 
+#[tactic(auto, unfolding(crate::specs::Quick::misses, ground::specs::Choice::pick))]
 pub(crate) fn is_missing(i: Instruction, v: Values) -> bool
     ensures { result ≡ misses i v }
 {
@@ -65,6 +72,7 @@ pub(crate) fn is_missing(i: Instruction, v: Values) -> bool
 }
 
 // What 1 asks of the values where there are some, and 3 where there are none.
+#[tactic(auto, unfolding(crate::specs::Quick::valued, ground::specs::Choice::pick))]
 fn is_valued(i: Instruction, v: Values) -> bool
     ensures { result ≡ valued i v }
 {
@@ -76,6 +84,7 @@ fn is_valued(i: Instruction, v: Values) -> bool
 }
 
 // All that 1, 2 and 3 ask but for what a row tells, that the operation is known and has the form.
+#[tactic(auto, unfolding(crate::specs::Quick::fit, ground::specs::Choice::pick))]
 pub(crate) fn is_fit(i: Instruction, v: Values) -> bool
     ensures { result ≡ fit i v }
 {

@@ -5,10 +5,12 @@ use mathlib.Core.Bool.{Bool, true, false, ◌&&◌}
 use mathlib.Core.List.{List, [], ◌∷◌}
 use Prim.Native.Nat.{ℕ, zero, suc, ◌<◌}
 use native.Mathlib.Omega.{arith}
-use borrow.Author.Tests.{eqb-true, eqb-false, lt-ltb, ltb-true}
+use borrow.Author.Tests.{lt-ltb, ltb-true}
 use lib.Dec.{eqb, leb, ltb}
 use lib.ListN.{length, get_or}
+use Rattle.std.specs.Prelude.{Result, Ok, Err, IfOk}
 use Rattle.ground.specs.Choice.{pick}
+use Rattle.ground.specs.declared.refusals.Refusal.{Refusal}
 use Rattle.ground.proofs.Choices.{by_test, by_pick}
 use Rattle.values.specs.declared.pages.Page.{Page}
 use Rattle.answers.specs.Sizes.{flag_cell}
@@ -16,14 +18,13 @@ use Rattle.rows.proofs.Codes.{form_small}
 use Rattle.instruction.specs.declared.Operand.{Operand}
 use Rattle.instruction.specs.declared.Values.{Values}
 use Rattle.instruction.specs.declared.Instruction.{Instruction}
-use Rattle.instruction.specs.declared.Made.{Made}
+use Rattle.instruction.specs.declared.Record.{Record}
 use Rattle.instruction.specs.declared.Built.{Built}
 use Rattle.instruction.specs.Records.{recognised, lawful}
 use Rattle.instruction.specs.Forms.{form_of, lacks}
-use Rattle.instruction.specs.Choosing.{choose_of}
-use Rattle.instruction.specs.Building.{instruction_of, made_as, make_of, accepted_of, build_of, handed, fresh_from, fresh_of}
+use Rattle.instruction.specs.Building.{instruction_of, made_as, make_of, accepted_of, tried_of, handing, build_of, fresh_from, fresh_of}
 use Rattle.instruction.proofs.Ready.{lacking_none}
-use Rattle.instruction.proofs.Fits.{build_chosen}
+use Rattle.instruction.proofs.Fits.{Builds, build_chosen}
 use Rattle.entries.specs.Entries.{byte_in, is_flag, flag_in, flagged_in, registers_in, fields_in, told_in, kept_flagged, kept_of, all_flagged, entry_of}
 use Rattle.joltwagon.specs.Kept.{is_kept, kept_cells}
 
@@ -147,64 +148,66 @@ formed_small : (row : List ℕ) (form : ℕ) → form < 7 → Small (instruction
 unfolding instruction_of
 formed_small row form h = told_small (all_flagged row) row form _ false (omega arith)
 
-made_small : (row : List ℕ) → (make_of (entry_of row)).refusal ≡ 0 → Small (make_of (entry_of row)).instruction
+made_small : (row : List ℕ) → IfOk (make_of (entry_of row)) Small
 unfolding make_of made_as entry_of
 made_small row =
     let o = told_in (all_flagged row) row in
     let r = entry_of row in
     let form = form_of o r.values r.page in
-    let P : Made → Type 0 = λ m. m.refusal ≡ 0 → Small m.instruction in
-    by_test P (recognised o && lawful r.values)
-    (λ _. by_test P (lacks o form) (λ _ z. absurd (omega arith)) (λ t _. formed_small row form (lacking_none o form t)))
-    (λ _ z. absurd (omega arith))
+    let P : Result Instruction Refusal → Type 0 = λ m. IfOk m Small in
+    by_pick P (recognised o && lawful r.values)
+    (by_test P (lacks o form) (λ _. tt) (λ t. formed_small row form (lacking_none o form t)))
+    tt
 
 -- one that was built
-module _ (i : Instruction) (v : Values) (page : Page) (address : ℕ) (s : Small i) where
-  built_small : (build_of i v page address).refusal ≡ 0 → Small (build_of i v page address).instruction
-  unfolding accepted_of
-  built_small e =
-      let b = build_chosen i v page address e in
-      let c = choose_of i v page address in
-      let h : c.form < 7 = form_small c.operation c.form b.fits.row in
-      rw b.built (record {
-        operation = s.operation;
-        mode = s.mode;
-        step = s.step;
-        count = s.count;
-        form = omega arith;
-        eight = s.eight;
-        registers = s.registers;
-      })
-
-  handed_small : (handed (build_of i v page address)).refusal ≡ 0 → Small (handed (build_of i v page address)).instruction
-  unfolding handed
-  handed_small =
-      let P : Built → Type 0 = λ b. b.refusal ≡ 0 → Small b.instruction in
-      let b = build_of i v page address in
-      by_test P (eqb b.refusal 0) (λ _ z. built_small z) (λ t z. absurd (eqb-false b.refusal 0 t z))
-
-fresh_small : (row : List ℕ) (address : ℕ) → (fresh_of (entry_of row) address).refusal ≡ 0 → Small (fresh_of (entry_of row) address).instruction
-unfolding fresh_of fresh_from
-fresh_small row address =
-    let P : Built → Type 0 = λ b. b.refusal ≡ 0 → Small b.instruction in
-    let r = entry_of row in
-    let m = make_of r in
-    by_test P (eqb m.refusal 0)
-    (λ t z. handed_small m.instruction r.values r.page address (made_small row (eqb-true m.refusal 0 t)) z)
-    (λ t z. absurd (eqb-false m.refusal 0 t z))
+built_small : (i : Instruction) (v : Values) (page : Page) (address : ℕ) → Small i → IfOk (tried_of i v page address) (λ b. Small b.instruction)
+unfolding accepted_of
+built_small i v page address s = go (tried_of i v page address) (build_chosen i v page address)
+  where
+    go : (t : Result Built Refusal) → IfOk t (Builds i v page address) → IfOk t (λ b. Small b.instruction)
+    go (Ok b) k =
+        let h : k.choice.form < 7 = form_small k.choice.operation k.choice.form k.fits.row in
+        rw k.built (record {
+          operation = s.operation;
+          mode = s.mode;
+          step = s.step;
+          count = s.count;
+          form = omega arith;
+          eight = s.eight;
+          registers = s.registers;
+        })
+    go (Err n) k = tt
 
 -- so the row of each is read as the instruction
-pub made_again :
-    (row : List ℕ) → (make_of (entry_of row)).refusal ≡ 0 →
-    kept_of (kept_cells (make_of (entry_of row)).instruction) ≡ (make_of (entry_of row)).instruction
-made_again row e = kept_back _ (made_small row e)
+abbrev pub Again : Instruction → Type 0
+Again i = kept_of (kept_cells i) ≡ i
 
-pub fresh_again :
-    (row : List ℕ) (address : ℕ) → (fresh_of (entry_of row) address).refusal ≡ 0 →
-    kept_of (kept_cells (fresh_of (entry_of row) address).instruction) ≡ (fresh_of (entry_of row) address).instruction
-fresh_again row address e = kept_back _ (fresh_small row address e)
+pub made_again : (row : List ℕ) → IfOk (make_of (entry_of row)) Again
+made_again row = go (make_of (entry_of row)) (made_small row)
+  where
+    go : (m : Result Instruction Refusal) → IfOk m Small → IfOk m Again
+    go (Ok i) s = kept_back i s
+    go (Err n) s = tt
 
-pub built_again :
-    (row : List ℕ) (v : Values) (page : Page) (address : ℕ) → (build_of (kept_of row) v page address).refusal ≡ 0 →
-    kept_of (kept_cells (build_of (kept_of row) v page address).instruction) ≡ (build_of (kept_of row) v page address).instruction
-built_again row v page address e = kept_back _ (built_small (kept_of row) v page address (kept_small row) e)
+pub fresh_again : (row : List ℕ) (address : ℕ) → IfOk (fresh_of (entry_of row) address) (λ b. Again b.instruction)
+unfolding fresh_of
+fresh_again row address = go (make_of (entry_of row)) (made_small row)
+  where
+    r : Record
+    r = entry_of row
+
+    back : (t : Result Built Refusal) → IfOk t (λ b. Small b.instruction) → IfOk t (λ b. Again b.instruction)
+    back (Ok b) s = kept_back b.instruction s
+    back (Err n) s = tt
+
+    go : (m : Result Instruction Refusal) → IfOk m Small → IfOk (fresh_from m r address) (λ b. Again b.instruction)
+    go (Ok i) s = back (tried_of i r.values r.page address) (built_small i r.values r.page address s)
+    go (Err n) s = tt
+
+pub built_again : (row : List ℕ) (v : Values) (page : Page) (address : ℕ) → IfOk (build_of (kept_of row) v page address) (λ b. Again b.instruction)
+unfolding build_of
+built_again row v page address = go (tried_of (kept_of row) v page address) (built_small (kept_of row) v page address (kept_small row))
+  where
+    go : (t : Result Built Refusal) → IfOk t (λ b. Small b.instruction) → IfOk (handing (kept_of row) t) (λ b. Again b.instruction)
+    go (Ok b) s = kept_back b.instruction s
+    go (Err n) s = tt

@@ -1,4 +1,5 @@
 pub mod Spoken
+pub mod Sizes
 pub mod Writing
 pub mod Reading
 pub mod Laying

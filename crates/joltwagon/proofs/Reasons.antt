@@ -3,19 +3,23 @@
 use mathlib.Core.Path.{◌≡◌, refl, sym, ap, ◌∙◌}
 use mathlib.Core.Bool.{Bool, true, false, ◌||◌, not}
 use mathlib.Core.List.{List, [], ◌∷◌, ◌++◌}
-use Prim.Native.Nat.{ℕ}
+use Prim.Native.Nat.{ℕ, ◌≤◌}
 use native.Mathlib.Omega.{arith}
-use borrow.Author.Tests.{eqb-true, eqb-false}
+use borrow.Author.Tests.{eqb-true, eqb-false, ne_eqb}
 use lib.Dec.{eqb, leb}
 use lib.ListN.{length, replicate}
+use Rattle.std.specs.Prelude.{Result, Ok, Err, IfErr, is_ok}
 use Rattle.ground.specs.Choice.{pick}
-use Rattle.ground.specs.Refusals.{unknown, no_room}
+use Rattle.ground.specs.declared.refusals.Refusal.{Refusal}
+use Rattle.ground.specs.Refusals.{unknown, branch_too_far, no_room, number_of}
 use Rattle.ground.proofs.Choices.{pick_true, pick_false, by_test, by_pick}
 use Rattle.answers.specs.Said.{Said, said, refusal_of, beside, lent_after, cells_after}
 use Rattle.answers.specs.Sizes.{flag_cell}
 use Rattle.answers.proofs.Laws.{Answers, refused, said_as}
 use Rattle.instruction.specs.declared.Record.{Record}
 use Rattle.instruction.specs.declared.Built.{Built}
+use Rattle.instruction.specs.Building.{told}
+use Rattle.ground.proofs.Refused.{refused_number}
 use Rattle.instruction.proofs.Refuses.{fresh_small}
 use Rattle.entries.specs.Entries.{entry_of}
 use Rattle.why.specs.declared.Field.{Field}
@@ -31,6 +35,7 @@ use Rattle.joltwagon.specs.Kept.{kept_cells}
 use Rattle.joltwagon.specs.Instructing.{front_cells, built_said, of_row, assemble_said}
 use Rattle.joltwagon.specs.Explaining.{reason_cells, explained_said, why_said, field_told}
 use Rattle.joltwagon.proofs.Spoken as spoken
+use Rattle.joltwagon.proofs.Spoken.{built_refusal}
 
 pub reason_by_cell :
     (p : Parts) {f u e n : ℕ} →
@@ -46,14 +51,22 @@ reason_by_cell p q r s t = cc
 abbrev room : List ℕ
 room = replicate 25 0
 
-module _ (b : Built) {r : ℕ} {l : List ℕ} (a : Answers (built_said b) r room l) where
-  own_refusal : r ≡ b.refusal
-  unfolding refusal_of built_said front_cells kept_cells pick
-  own_refusal = a.value ∙ by_test (λ (n : ℕ). n ≡ b.refusal) (eqb b.refusal 0) (λ t. sym (eqb-true _ _ t)) (λ _. refl)
+module _ (b : Result Built Refusal) {r : ℕ} {l : List ℕ} (a : Answers (built_said b) r room l) where
+  own_refusal : r ≡ told b
+  unfolding refusal_of front_cells kept_cells pick
+  own_refusal = a.value ∙ from b
+    where
+      from : (x : Result Built Refusal) → refusal_of (built_said x) (length room) ≡ told x
+      from (Ok x) = refl
+      from (Err n) = by_test (λ (k : ℕ). k ≡ number_of n) (eqb (number_of n) 0) (λ t. sym (eqb-true _ _ t)) (λ _. refl)
 
-  own_cells : b.refusal ≡ 0 → l ≡ (built_said b).cells
-  unfolding refusal_of lent_after cells_after built_said front_cells kept_cells pick
-  own_cells z = a.answer_after ∙ rw z
+  own_cells : told b ≡ 0 → l ≡ (built_said b).cells
+  unfolding refusal_of lent_after cells_after front_cells kept_cells pick
+  own_cells z = a.answer_after ∙ from b z
+    where
+      from : (x : Result Built Refusal) → told x ≡ 0 → cells_after (built_said x) room ≡ (built_said x).cells
+      from (Ok x) y = refl
+      from (Err n) y = absurd (refused_number n y)
 
 -- of what is refused, the cells do not count
 refused_alike : (s t : Said) (d : List ℕ) {r : ℕ} {e : List ℕ} → s.refusal ≡ t.refusal → (t.refusal ≡ 0 → ⊥) → Answers s r d e → Answers t r d e
@@ -68,14 +81,14 @@ Tells s field r d e = record { value : r ≡ beside (refusal_of s (length d)) fi
 
 -- handed on with the reason behind it
 explained_said_lem :
-    (e : Explained) {n : ℕ} {build reason : List ℕ} → n ≡ e.built.refusal → build ≡ (built_said e.built).cells → reason ≡ reason_cells (parts_of e.reason) →
+    (e : Explained) {n : ℕ} {build reason : List ℕ} → n ≡ told e.built → build ≡ (built_said e.built).cells → reason ≡ reason_cells (parts_of e.reason) →
     said n (build ++ reason) ≡ explained_said e
 unfolding explained_said
 explained_said_lem e p q r = rw (p, q, r)
 
 module _ (e : Explained) (d : List ℕ) {n r : ℕ} {build reason d' : List ℕ} (a : Answers (built_said e.built) n room build) where
   by_outcome :
-      (t : Bool) → eqb e.built.refusal 0 ≡ t → reason ≡ reason_cells (parts_of e.reason) → Answers (said n (build ++ reason)) r d d' →
+      (t : Bool) → eqb (told e.built) 0 ≡ t → reason ≡ reason_cells (parts_of e.reason) → Answers (said n (build ++ reason)) r d d' →
       Answers (explained_said e) r d d'
   unfolding explained_said
   by_outcome true t q h = said_as d (explained_said_lem e (own_refusal e.built a) (own_cells e.built a (eqb-true _ _ t)) q) h
@@ -85,7 +98,7 @@ module _ (e : Explained) (d : List ℕ) {n r : ℕ} {build reason d' : List ℕ}
       {x : ℕ} {p : Parts} → p ≡ parts_of e.reason → reason ≡ reason_cells p → Answers (said n (build ++ reason)) r d d' → x ≡ beside r p.field →
       Tells (explained_said e) (parts_of e.reason).field x d d'
   explained {x} {p} q f h t =
-      let s = by_outcome (eqb e.built.refusal 0) refl (f ∙ ap reason_cells q) h in
+      let s = by_outcome (eqb (told e.built) 0) refl (f ∙ ap reason_cells q) h in
       record { value = t ∙ ap (λ (k : ℕ). beside k p.field) s.value ∙ ap (λ (k : Parts). beside (refusal_of (explained_said e) (length d)) k.field) q; answer_after = s.answer_after }
 
 -- ---- the row
@@ -108,7 +121,7 @@ pub as_assembled : (row : List ℕ) (address : ℕ) → (why_said row address).r
 unfolding why_said assemble_said of_row explained_said explained_of built_said
 as_assembled row address =
     by_test (λ (s : Said). s.refusal ≡ (assemble_said row address).refusal) (leb 21 (length row))
-    (λ t. sym (ap (λ (s : Said). s.refusal) (pick_true _ _ t)))
+    (λ t. sym (built_refusal (answer_of row address)) ∙ sym (ap (λ (s : Said). s.refusal) (pick_true _ _ t)))
     (λ t. sym (ap (λ (s : Said). s.refusal) (pick_false _ _ t)))
 
 -- and behind its cells the reason
@@ -137,23 +150,27 @@ some_field Page = refl
 some_field Values = refl
 
 -- a field is told exactly of a record that is refused
-pub field_exactly : (row : List ℕ) (address : ℕ) → eqb (field_told row address) 0 ≡ (not (leb 21 (length row)) || eqb (answer_of row address).refusal 0)
-unfolding field_told explained_of reason_as
+pub field_exactly : (row : List ℕ) (address : ℕ) → eqb (field_told row address) 0 ≡ (not (leb 21 (length row)) || is_ok (answer_of row address))
+unfolding field_told explained_of
 field_exactly row address =
-    by_test (λ (n : ℕ). eqb n 0 ≡ (not (leb 21 (length row)) || eqb (answer_of row address).refusal 0)) (leb 21 (length row))
-    (λ t. rw t
-    (by_test (λ (x : Reason). eqb (parts_of x).field 0 ≡ eqb (answer_of row address).refusal 0) (eqb (answer_of row address).refusal 0)
-    (λ u. rw (no_field (entry_of row) address, u))
-    (λ u. some_field (field_of row (answer_of row address).refusal) ∙ sym u)))
+    by_test (λ (n : ℕ). eqb n 0 ≡ (not (leb 21 (length row)) || is_ok (answer_of row address))) (leb 21 (length row))
+    (λ t. rw t (from (answer_of row address)))
     (λ t. rw t)
+  where
+    from : (b : Result Built Refusal) → eqb (parts_of (reason_as row b address)).field 0 ≡ is_ok b
+    from (Ok b) = rw (no_field (entry_of row) address)
+    from (Err n) = some_field (field_of row (number_of n))
 
 -- and so none beside 9, which is for the answer and not for the record
 pub nine_tells_none : (row : List ℕ) (address n : ℕ) → refusal_of (why_said row address) n ≡ no_room → field_told row address ≡ 0
-unfolding why_said field_told of_row explained_said explained_of reason_as refusal_of
+unfolding why_said field_told of_row explained_said explained_of refusal_of
 nine_tells_none row address n =
     by_test (λ (m : ℕ). refusal_of (why_said row address) n ≡ no_room → m ≡ 0) (leb 21 (length row))
-    (λ t. rw (pick_true (explained_said (explained_of row address)) (said unknown []) t)
-    (by_test (λ (x : Reason). refusal_of (explained_said (explained_of row address)) n ≡ no_room → (parts_of x).field ≡ 0) (eqb (answer_of row address).refusal 0)
-    (λ _ _. no_field (entry_of row) address)
-    (λ u h. absurd (omega (arith, fresh_small (entry_of row) address, sym (pick_false _ _ u) ∙ h)))))
+    (λ t. rw (pick_true (explained_said (explained_of row address)) (said unknown []) t) (from (answer_of row address) (fresh_small (entry_of row) address)))
     (λ _ _. refl)
+  where
+    from :
+        (b : Result Built Refusal) → IfErr b (λ m. number_of m ≤ branch_too_far) →
+        refusal_of (explained_said (record { built = b; reason = reason_as row b address })) n ≡ no_room → (parts_of (reason_as row b address)).field ≡ 0
+    from (Ok b) s h = no_field (entry_of row) address
+    from (Err m) s h = absurd (omega (arith, s, sym (pick_false _ _ (ne_eqb (number_of m) 0 (refused_number m))) ∙ h))

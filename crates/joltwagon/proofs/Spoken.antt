@@ -1,91 +1,88 @@
 -- The cells that the code puts together are those of the definitions.
 -- Assumes nothing.
-use mathlib.Core.Path.{◌≡◌, sym}
+use mathlib.Core.Path.{◌≡◌, refl, sym}
 use mathlib.Core.Bool.{Bool, true, false, ◌&&◌}
 use mathlib.Core.List.{List, [], ◌∷◌, ◌++◌}
 use Prim.Native.Nat.{ℕ}
 use native.Mathlib.Omega.{arith}
 use lib.ListN.{get_or}
-use Rattle.ground.specs.Refusals.{unknown}
+use Rattle.std.specs.Prelude.{Result, Ok, Err}
+use Rattle.ground.specs.declared.refusals.Refusal.{Refusal}
+use Rattle.ground.specs.Refusals.{unknown, number_of}
 use Rattle.ground.proofs.Choices.{pick_true, pick_false}
+use Rattle.values.specs.declared.Value.{Value}
 use Rattle.values.specs.declared.pages.Page.{Page}
 use Rattle.answers.specs.Said.{Said, said}
 use Rattle.answers.proofs.Laws.{Answers, refused, said_as}
 use Rattle.answers.specs.Sizes.{size_cells, flag_cell}
 use Rattle.decoder.specs.declared.Decoded.{Decoded}
 use Rattle.decoder.specs.declared.Parts.{Parts}
-use Rattle.decoder.specs.declared.Counted.{Counted}
 use Rattle.decoder.specs.Origin.{origin}
+use Rattle.decoder.specs.Meaning as decoded
 use Rattle.decoder.specs.Meaning.{parts_of}
 use Rattle.decoder.specs.Front.{decode_of}
 use Rattle.decoder.specs.Run.{run_of, next_of, counted_of}
-use Rattle.expressions.specs.declared.Answer.{Answer}
 use Rattle.expressions.specs.declared.Evaluated.{Evaluated}
 use Rattle.instruction.specs.declared.Instruction.{Instruction}
 use Rattle.instruction.specs.declared.Values.{Values}
-use Rattle.instruction.specs.declared.Made.{Made}
 use Rattle.instruction.specs.declared.Built.{Built}
-use Rattle.instruction.specs.Building.{build_of}
-use Rattle.records.specs.declared.Written.{Written}
+use Rattle.instruction.specs.Building.{build_of, told}
+use Rattle.std.specs.Prelude.{Result, Ok}
+use Rattle.ground.specs.declared.refusals.Refusal.{Refusal}
+use Rattle.instruction.specs.declared.Refused.{Refused}
+use Rattle.ground.proofs.Refused.{refused_number}
 use Rattle.reader.specs.declared.Read.{Read}
-use Rattle.laying.specs.declared.Laid.{Laid}
-use Rattle.assembly.specs.declared.Hexed.{Hexed}
 use Rattle.joltwagon.specs.Decoding.{part_cells, decoded_said, counted_said}
 use Rattle.joltwagon.specs.Evaluating.{value_cells, evaluated_said, value_said}
-use Rattle.joltwagon.specs.Texts.{written_said, read_said}
-use Rattle.joltwagon.specs.Lists.{laid_said}
-use Rattle.joltwagon.specs.Settling.{hex_said}
+use Rattle.joltwagon.specs.Texts.{read_said}
 use Rattle.joltwagon.specs.Kept.{kept_cells}
-use Rattle.joltwagon.specs.Instructing.{made_said, front_cells, built_said, of_row}
+use Rattle.joltwagon.specs.Instructing.{front_cells, built_said, of_row}
 
 pub decoded_said_lem :
     (d : Decoded) {p : Parts} {f : ℕ} → p ≡ parts_of d.meaning.kind → f ≡ flag_cell p.indirect →
-    said d.refusal (d.length ∷ d.meaning.operation ∷ p.kind ∷ f ∷ p.step ∷ p.registers ∷ p.first ∷ p.second ∷ p.number ∷ [])
-    ≡ decoded_said d
+    said 0 (d.length ∷ d.meaning.operation ∷ p.kind ∷ f ∷ p.step ∷ p.registers ∷ p.first ∷ p.second ∷ p.number ∷ [])
+    ≡ decoded_said (Ok d)
 unfolding decoded_said part_cells
 decoded_said_lem d e g = rw (g, e)
 
-pub counted_said_lem : {c d : Counted} {n : List ℕ} → c ≡ d → n ≡ size_cells c.count → said c.refusal n ≡ counted_said d
+pub counted_said_lem : (count : ℕ) {n : List ℕ} → n ≡ size_cells count → said 0 n ≡ counted_said (Ok count)
 unfolding counted_said
-counted_said_lem e g = rw (g, e)
+counted_said_lem count g = rw g
+
+pub refusal_told : {s : Said} (e : Refusal) (d : List ℕ) {r : ℕ} → r ≡ number_of e → said (number_of e) [] ≡ s → Answers s r d d
+refusal_told e d q p = rw q (said_as d p (refused (said (number_of e) []) d (refused_number e)))
 
 pub evaluated_said_lem :
-    {e f : Evaluated} → e ≡ f →
-    said e.refusal (e.unsigned.number ∷ e.unsigned.width ∷ e.signed.number ∷ e.signed.width ∷ []) ≡ evaluated_said f
+    {r : Result Evaluated Refusal} {e : Evaluated} → r ≡ Ok e →
+    said 0 (e.unsigned.number ∷ e.unsigned.width ∷ e.signed.number ∷ e.signed.width ∷ []) ≡ evaluated_said r
 unfolding evaluated_said value_cells
 evaluated_said_lem e = rw e
 
-pub value_said_lem : {a b : Answer} → a ≡ b → said a.refusal (a.value.number ∷ a.value.width ∷ []) ≡ value_said b
+pub value_said_lem : {r : Result Value Refusal} {v : Value} → r ≡ Ok v → said 0 (v.number ∷ v.width ∷ []) ≡ value_said r
 unfolding value_said value_cells
 value_said_lem e = rw e
 
-pub written_said_lem : {w v : Written} {n : List ℕ} → w ≡ v → n ≡ size_cells w.length → said w.refusal n ≡ written_said v
-unfolding written_said
-written_said_lem e g = rw (g, e)
+pub evaluated_refused : {r : Result Evaluated Refusal} {why : Refusal} {n : ℕ} → r ≡ Err why → n ≡ number_of why → said n [] ≡ evaluated_said r
+unfolding evaluated_said
+evaluated_refused e f = rw (e, f)
 
-pub laid_said_lem : {l m : Laid} {n : List ℕ} → l ≡ m → n ≡ size_cells l.length → said l.refusal n ≡ laid_said m
-unfolding laid_said
-laid_said_lem e g = rw (g, e)
-
-pub hex_said_lem : {h g : Hexed} {n : List ℕ} → h ≡ g → n ≡ size_cells h.length → said h.refusal n ≡ hex_said g
-unfolding hex_said
-hex_said_lem e g = rw (g, e)
+pub value_refused : {r : Result Value Refusal} {why : Refusal} {n : ℕ} → r ≡ Err why → n ≡ number_of why → said n [] ≡ value_said r
+unfolding value_said
+value_refused e f = rw (e, f)
 
 pub read_said_lem :
-    {r q : Read} {m n : List ℕ} → r ≡ q → m ≡ size_cells r.bytes → n ≡ size_cells r.runs →
-    said r.refusal (m ++ n) ≡ read_said q
+    {q : Result Read Refusal} {r : Read} {m n : List ℕ} → Ok r ≡ q → m ≡ size_cells r.bytes → n ≡ size_cells r.runs →
+    said 0 (m ++ n) ≡ read_said q
 unfolding read_said
-read_said_lem e g h = rw (g, h, e)
+read_said_lem e g h = rw (g, h, ← e)
 
-pub made_said_lem : {m n : Made} {row : List ℕ} → m ≡ n → row ≡ kept_cells m.instruction → said m.refusal row ≡ made_said n
-unfolding made_said
-made_said_lem e g = rw (g, e)
+-- a refusal is answered by its number, and leaves everything
+pub refused_told : (n : Refusal) (d : List ℕ) → Answers (said (number_of n) []) (number_of n) d d
+refused_told n d = refused (said (number_of n) []) d (refused_number n)
 
-pub built_said_lem :
-    (b : Built) {front row : List ℕ} → front ≡ front_cells b → row ≡ kept_cells b.instruction →
-    said b.refusal (front ++ row) ≡ built_said b
-unfolding built_said
-built_said_lem b e g = rw (e, g)
+pub built_refusal : (b : Result Built Refusal) → (built_said b).refusal ≡ told b
+built_refusal (Ok b) = refl
+built_refusal (Err n) = refl
 
 pub front_by_cell :
     (b : Built) {b₀ b₁ b₂ b₃ b₄ f : ℕ} →
@@ -151,20 +148,20 @@ pub both_told : {a b x y : Bool} {t : Bool} → a ≡ x → b ≡ y → (a && b)
 both_told p q e = rw (p, q) at e
 
 pub build_told :
-    {b : Built} {i j : Instruction} {v w : Values} {p q : Page} (address : ℕ) → b ≡ build_of i v p address → i ≡ j → v ≡ w → p ≡ q →
+    {b : Result Built Refused} {i j : Instruction} {v w : Values} {p q : Page} (address : ℕ) → b ≡ build_of i v p address → i ≡ j → v ≡ w → p ≡ q →
     b ≡ build_of j w q address
 build_told address e f g h = cc
 
 -- what was read, under the page of a number
 pub decode_told :
-    {d : Decoded} {p q : Page} (bytes : List ℕ) (address : ℕ) → d ≡ decode_of bytes (origin address p) → p ≡ q → d ≡ decode_of bytes (origin address q)
+    {d : decoded.Answer} {p q : Page} (bytes : List ℕ) (address : ℕ) → d ≡ decode_of bytes (origin address p) → p ≡ q → d ≡ decode_of bytes (origin address q)
 decode_told bytes address e f = cc
 
 pub next_told :
-    {d : Decoded} {p q : Page} (bytes : List ℕ) (address at : ℕ) → d ≡ next_of bytes (origin address p) at → p ≡ q → d ≡ next_of bytes (origin address q) at
+    {d : decoded.Answer} {p q : Page} (bytes : List ℕ) (address at : ℕ) → d ≡ next_of bytes (origin address p) at → p ≡ q → d ≡ next_of bytes (origin address q) at
 next_told bytes address at e f = cc
 
 pub count_told :
-    {c : Counted} {p q : Page} (bytes : List ℕ) (address : ℕ) → c ≡ counted_of (run_of bytes (origin address p)) → p ≡ q →
+    {c : Result ℕ Refusal} {p q : Page} (bytes : List ℕ) (address : ℕ) → c ≡ counted_of (run_of bytes (origin address p)) → p ≡ q →
     c ≡ counted_of (run_of bytes (origin address q))
 count_told bytes address e f = cc

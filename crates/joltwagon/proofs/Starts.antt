@@ -5,20 +5,20 @@ use mathlib.Core.Bool.{Bool, true, false}
 use mathlib.Core.List.{List, [], ◌∷◌, append-nil}
 use Prim.Native.Nat.{ℕ, ◌-◌, ◌<◌}
 use native.Mathlib.Omega.{arith}
-use borrow.Author.Tests.{eqb-true, eq-eqb, ne_eqb, leb-false}
 use borrow.Rule.Slice.PartMut.{put_mid}
-use lib.Dec.{eqb, leb}
+use lib.Dec.{eqb}
 use lib.ListN.{length, take, drop, get_or, set, drop_of_length-le}
 use lib.Seq.{take_all}
 use Rattle.ground.specs.Choice.{pick}
-use Rattle.ground.specs.Refusals.{unknown}
-use Rattle.ground.proofs.Choices.{by_test, pick_true, pick_false}
+use Rattle.ground.specs.Refusals.{unknown, number_of}
 use Rattle.answers.specs.Said.{said}
 use Rattle.answers.proofs.Laws.{Answers, refused, said_as}
-use Rattle.segments.specs.declared.Added.{Added}
+use Rattle.std.proofs.Common.{Result, Ok, Err}
+use Rattle.ground.specs.declared.refusals.Refusal.{Refusal}
 use Rattle.segments.specs.declared.Segment.{Segment}
-use Rattle.segments.specs.Segments.{holds_of, refusal_of, added_to, table_after, segment_of}
-use Rattle.joltwagon.specs.Placing.{add_refusal, segments_after, ends_said, segment_said}
+use Rattle.segments.specs.Segments.{counted_of, added_to, placed, table_after, segment_of}
+use Rattle.segments.proofs.Laws.{added_next}
+use Rattle.joltwagon.specs.Placing.{add_refusal, counted_with, segments_after, ends_said, segment_said}
 
 -- the part of a table that is lent on
 abbrev part : List ℕ → List ℕ
@@ -42,62 +42,44 @@ none_found [] address d h = refused (said unknown []) d (λ e. omega arith)
 none_found (n ∷ starts) address d h = absurd (omega arith)
 
 -- the count after an added start is a cell's number
-under_limit : (a b c : Bool) → pick {A = ℕ} a 12 (pick b 17 (pick c 9 0)) ≡ 0 → b ≡ false
-unfolding pick
-under_limit true b c h = absurd (omega arith)
-under_limit false true c h = absurd (omega arith)
-under_limit false false c h = refl
-
-limit : (l : List ℕ) (n start : ℕ) → refusal_of l n start ≡ 0 → n < 63
-unfolding refusal_of
-limit l n start h = leb-false _ _ (under_limit (holds_of start (take n l)) (leb 63 n) (leb (length l) n) h)
-
-pub count_fits : (l : List ℕ) (n start : ℕ) {a : Added} → a ≡ added_to l n start → n < 65536 → a.count < 65536
-unfolding added_to
-count_fits l n start {a} e h =
-    rw e (by_test (λ (b : Added). b.count < 65536) (eqb start 0) (λ _. h)
-    (λ _. by_test (λ (b : Added). b.count < 65536) (eqb (refusal_of l n start) 0)
-    (λ t. omega (arith, limit l n start (eqb-true _ _ t)))
-    (λ _. omega arith)))
+pub count_fits : (l : List ℕ) (n start next : ℕ) → added_to l n start ≡ Ok next → n < 65536 → next < 65536
+unfolding added_to pick
+count_fits l n start next e h = from (eqb start 0) e
+  where
+    from : (zeroth : Bool) → pick zeroth (Ok n) (counted_of l n start) ≡ Ok next → next < 65536
+    from true = λ q. let same : n ≡ next = cc in omega arith
+    from false = λ q. let a = added_next l n start next q in omega arith
 
 -- a refusal leaves the starts
-left_alone : (l : List ℕ) (n start : ℕ) → ((added_to l n start).refusal ≡ 0 → ⊥) → table_after l n start ≡ l
-unfolding added_to table_after
-left_alone l n start h =
-    by_test (λ (k : List ℕ). k ≡ l) (eqb start 0) (λ _. refl)
-    (λ t. by_test (λ (k : List ℕ). k ≡ l) (eqb (refusal_of l n start) 0)
-    (λ u. absurd (h (ap (λ (b : Added). b.refusal) (pick_false _ _ t ∙ pick_true _ _ u))))
-    (λ _. refl))
+left_alone : (l : List ℕ) (n start : ℕ) (why : Refusal) → added_to l n start ≡ Err why → table_after l n start ≡ l
+unfolding added_to table_after placed pick
+left_alone l n start why = from (eqb start 0) (counted_of l n start)
+  where
+    from : (zeroth : Bool) (r : Result ℕ Refusal) → pick zeroth (Ok n) r ≡ Err why → pick zeroth l (placed l n start r) ≡ l
+    from true r = λ _. refl
+    from false (Ok next) = λ q. absurd cc
+    from false (Err other) = λ _. refl
 
-module _ (start : ℕ) {a : Added} {e : List ℕ} where
+module _ (start : ℕ) {e : List ℕ} where
   pub added :
-      (l : List ℕ) → (length l ≡ 0 → ⊥) → a ≡ added_to (part l) (get_or l 0 0) start → e ≡ table_after (part l) (get_or l 0 0) start →
-      a.refusal ≡ 0 → (a.refusal ≡ add_refusal l start) × (set (put_mid 1 (length l - 1) l e) 0 a.count ≡ segments_after l start)
-  unfolding add_refusal segments_after
-  added [] h p q r = absurd (h refl)
-  added (n ∷ starts) h p q r =
-      let p' : a ≡ added_to starts n start = p ∙ ap (λ (l : List ℕ). added_to l n start) (part_of n starts) in
+      (l : List ℕ) (next : ℕ) → (length l ≡ 0 → ⊥) → added_to (part l) (get_or l 0 0) start ≡ Ok next → e ≡ table_after (part l) (get_or l 0 0) start →
+      (0 ≡ add_refusal l start) × (set (put_mid 1 (length l - 1) l e) 0 next ≡ segments_after l start)
+  unfolding add_refusal segments_after counted_with
+  added [] next h p q = absurd (h refl)
+  added (n ∷ starts) next h p q =
+      let p' : added_to starts n start ≡ Ok next = ap (λ (l : List ℕ). added_to l n start) (sym (part_of n starts)) ∙ p in
       let q' : e ≡ table_after starts n start = q ∙ ap (λ (l : List ℕ). table_after l n start) (part_of n starts) in
-      let same : (added_to starts n start).count ∷ table_after starts n start ≡ a.count ∷ e = cc in (
-        ap (λ (b : Added). b.refusal) p',
-        ap (λ (l : List ℕ). set l 0 a.count) (put_back n starts e)
-            ∙ sym (pick_true _ _ (eq-eqb _ _ (sym (ap (λ (b : Added). b.refusal) p') ∙ r)) ∙ same),
-      )
+      (rw p', ap (λ (l : List ℕ). set l 0 next) (put_back n starts e) ∙ rw (p', ← q'))
 
   pub kept_out :
-      (l : List ℕ) → (length l ≡ 0 → ⊥) → a ≡ added_to (part l) (get_or l 0 0) start → e ≡ table_after (part l) (get_or l 0 0) start →
-      (a.refusal ≡ 0 → ⊥) → (a.refusal ≡ add_refusal l start) × (put_mid 1 (length l - 1) l e ≡ segments_after l start)
-  unfolding add_refusal segments_after
-  kept_out [] h p q r = absurd (h refl)
-  kept_out (n ∷ starts) h p q r =
-      let p' : a ≡ added_to starts n start = p ∙ ap (λ (l : List ℕ). added_to l n start) (part_of n starts) in
-      let s : (added_to starts n start).refusal ≡ a.refusal = cc in
-      let refuses : (added_to starts n start).refusal ≡ 0 → ⊥ = λ z. r (sym s ∙ z) in (
-        sym s,
-        put_back n starts e
-            ∙ ap (λ (l : List ℕ). n ∷ l) (q ∙ ap (λ (l : List ℕ). table_after l n start) (part_of n starts) ∙ left_alone starts n start refuses)
-            ∙ sym (pick_false _ _ (ne_eqb _ _ refuses)),
-      )
+      (l : List ℕ) (why : Refusal) → (length l ≡ 0 → ⊥) → added_to (part l) (get_or l 0 0) start ≡ Err why → e ≡ table_after (part l) (get_or l 0 0) start →
+      (number_of why ≡ add_refusal l start) × (put_mid 1 (length l - 1) l e ≡ segments_after l start)
+  unfolding add_refusal segments_after counted_with
+  kept_out [] why h p q = absurd (h refl)
+  kept_out (n ∷ starts) why h p q =
+      let p' : added_to starts n start ≡ Err why = ap (λ (l : List ℕ). added_to l n start) (sym (part_of n starts)) ∙ p in
+      let q' : e ≡ table_after starts n start = q ∙ ap (λ (l : List ℕ). table_after l n start) (part_of n starts) in
+      (rw p', put_back n starts e ∙ rw (p', ← q'))
 
 pub found :
     (l : List ℕ) (address : ℕ) (d : List ℕ) {s : Segment} {r : ℕ} {e : List ℕ} → (length l ≡ 0 → ⊥) →

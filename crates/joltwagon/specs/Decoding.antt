@@ -1,14 +1,14 @@
 -- What is said of an instruction that was read, and of a run, under a page.
-use Rattle.std.specs.Prelude.{ℕ, List, [], ◌∷◌}
+use Rattle.std.specs.Prelude.{ℕ, List, [], ◌∷◌, Result, Ok, Err}
+use Rattle.ground.specs.declared.refusals.Refusal.{Refusal}
+use Rattle.ground.specs.Refusals.{number_of}
 use Rattle.values.specs.Pages.{is_page, page_numbered}
 use Rattle.answers.specs.Said.{Said, said}
 use Rattle.answers.specs.Sizes.{size_cells, flag_cell}
-use Rattle.decoder.specs.declared.Decoded.{Decoded}
 use Rattle.decoder.specs.declared.Parts.{Parts}
-use Rattle.decoder.specs.declared.Counted.{Counted}
 use Rattle.decoder.specs.declared.Origin.{Origin}
 use Rattle.decoder.specs.Origin.{origin}
-use Rattle.decoder.specs.Meaning.{parts_of}
+use Rattle.decoder.specs.Meaning.{Answer, parts_of}
 use Rattle.decoder.specs.Front.{decode_of}
 use Rattle.decoder.specs.Run.{run_of, next_of, counted_of}
 use Rattle.joltwagon.specs.Instructing.{of_row}
@@ -19,14 +19,15 @@ part_cells p =
     p.kind ∷ flag_cell p.indirect ∷ p.step ∷ p.registers ∷ p.first ∷ p.second ∷ p.number ∷ []
 
 -- ---- answers
--- the length, the operation and the parts of what it means
-unfoldable pub decoded_said : Decoded → Said
-decoded_said d =
-    said d.refusal (d.length ∷ d.meaning.operation ∷ part_cells (parts_of d.meaning.kind))
+-- the length, the operation and the parts of what it means; or the refusal
+unfoldable pub decoded_said : Answer → Said
+decoded_said (Ok d) = said 0 (d.length ∷ d.meaning.operation ∷ part_cells (parts_of d.meaning.kind))
+decoded_said (Err e) = said (number_of e) []
 
--- how many instructions
-unfoldable pub counted_said : Counted → Said
-counted_said c = said c.refusal (size_cells c.count)
+-- how many instructions; or the refusal
+unfoldable pub counted_said : Result ℕ Refusal → Said
+counted_said (Ok n) = said 0 (size_cells n)
+counted_said (Err e) = said (number_of e) []
 
 -- ---- calls
 -- bytes at an address under a page, which is a number of a row; one that is none is 1, before all else

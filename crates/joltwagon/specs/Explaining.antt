@@ -3,6 +3,7 @@ use Rattle.std.specs.Prelude.{ℕ, List, [], ◌∷◌, ◌++◌, leb, length}
 use Rattle.ground.specs.Choice.{pick}
 use Rattle.answers.specs.Said.{Said, said}
 use Rattle.answers.specs.Sizes.{flag_cell}
+use Rattle.instruction.specs.Building.{told}
 use Rattle.why.specs.declared.Explained.{Explained}
 use Rattle.why.specs.declared.Parts.{Parts}
 use Rattle.why.specs.Numbers.{parts_of}
@@ -16,7 +17,7 @@ reason_cells p =
 
 -- the reason stands behind the build
 unfoldable pub explained_said : Explained → Said
-explained_said e = said e.built.refusal ((built_said e.built).cells ++ reason_cells (parts_of e.reason))
+explained_said e = said (told e.built) ((built_said e.built).cells ++ reason_cells (parts_of e.reason))
 
 unfoldable pub why_said : List ℕ → ℕ → Said
 why_said row address = of_row (leb 21 (length row)) (explained_said (explained_of row address))

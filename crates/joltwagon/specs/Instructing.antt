@@ -1,18 +1,21 @@
 -- What is said of an instruction that was made or built.
-use Rattle.std.specs.Prelude.{ℕ, Bool, ◌&&◌, List, [], ◌∷◌, ◌++◌, leb, length, get_or}
+use Rattle.std.specs.Prelude.{Result, Ok, Err, ℕ, Bool, ◌&&◌, List, [], ◌∷◌, ◌++◌, leb, length, get_or}
 use Rattle.ground.specs.Choice.{pick}
-use Rattle.ground.specs.Refusals.{unknown}
+use Rattle.ground.specs.Refusals.{unknown, number_of}
+use Rattle.ground.specs.declared.refusals.Refusal.{Refusal}
 use Rattle.answers.specs.Said.{Said, said}
 use Rattle.answers.specs.Sizes.{flag_cell}
-use Rattle.instruction.specs.declared.Made.{Made}
+use Rattle.instruction.specs.declared.Instruction.{Instruction}
 use Rattle.instruction.specs.declared.Built.{Built}
 use Rattle.instruction.specs.Building.{make_of, build_of, fresh_of}
+use Rattle.instruction.specs.Sequences.{told_of}
 use Rattle.entries.specs.Entries.{page_in, entry_of, kept_of}
 use Rattle.joltwagon.specs.Kept.{is_kept, kept_cells, is_present, present_of}
 
 -- ---- answers
-unfoldable pub made_said : Made → Said
-made_said m = said m.refusal (kept_cells m.instruction)
+abbrev pub made_said : Result Instruction Refusal → Said
+made_said (Ok i) = said 0 (kept_cells i)
+made_said (Err n) = said (number_of n) []
 
 -- the length, the five bytes, and whether this instruction leaves the page unknown
 unfoldable pub front_cells : Built → List ℕ
@@ -27,8 +30,9 @@ front_cells b =
     ∷ []
 
 -- "A kept instruction is taken by value and handed back": its row stands behind its bytes
-unfoldable pub built_said : Built → Said
-built_said b = said b.refusal (front_cells b ++ kept_cells b.instruction)
+abbrev pub built_said : Result Built Refusal → Said
+built_said (Ok b) = said 0 (front_cells b ++ kept_cells b.instruction)
+built_said (Err n) = said (number_of n) []
 
 -- ---- calls
 -- "operation or field number unknown": what is no row is 1
@@ -44,4 +48,4 @@ assemble_said row address = of_row (leb 21 (length row)) (built_said (fresh_of (
 unfoldable pub build_said : (kept present : List ℕ) → ℕ → Said
 build_said kept present address =
     of_row (is_kept kept && is_present present)
-    (built_said (build_of (kept_of kept) (present_of present) (page_in present 0) address))
+    (built_said (told_of (build_of (kept_of kept) (present_of present) (page_in present 0) address)))

@@ -1,6 +1,7 @@
 pub mod Decoding
 pub mod Evaluating
 pub mod Placing
+pub mod Sizes
 pub mod Texts
 pub mod Lists
 pub mod Settling

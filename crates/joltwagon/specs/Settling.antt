@@ -1,5 +1,7 @@
 -- "its bytes, or its first refusal, are the answer, with the number of passes made": the passes are said beside a refusal, too, so they are part of the return.
-use Rattle.std.specs.Prelude.{◌≡◌, List, ℕ, ◌+◌, ◌*◌, length}
+use Rattle.std.specs.Prelude.{◌≡◌, List, [], ℕ, ◌+◌, ◌*◌, length, Option, Some, None, Result, Ok, Err}
+use Rattle.ground.specs.Refusals.{number_of}
+use Rattle.ground.specs.declared.refusals.Refusal.{Refusal}
 use Rattle.answers.specs.Said.{Said, said, refusal_of, lent_after, cells_after}
 use Rattle.answers.specs.Sizes.{size_cells}
 use Rattle.passes.specs.Labels.{laid_over}
@@ -14,9 +16,18 @@ use Rattle.assembly.specs.Text.{settled_text, hexed_of}
 abbrev pub with_passes : (refusal passes : ℕ) → ℕ
 with_passes refusal passes = refusal + 65536 * passes
 
+-- a refusal's number, 0 for none
+abbrev pub number_in : Option Refusal → ℕ
+number_in None = 0
+number_in (Some why) = number_of why
+
 -- how long the text is
+unfoldable pub length_said : Result ℕ Refusal → Said
+length_said (Ok length) = said 0 (size_cells length)
+length_said (Err why) = said (number_of why) []
+
 unfoldable pub hex_said : Hexed → Said
-hex_said h = said h.refusal (size_cells h.length)
+hex_said h = length_said h.length
 
 -- statements settled and written, with label table l, object and value tables x and y, a buffer z and a slice d for the answer: the return, and what the five
 -- hold then

@@ -1,16 +1,16 @@
 // One instruction read, the next of a run, and how many a run has: each under a page, and 1 where its number is none.
 ghost use Rattle.std.specs.Prelude.{◌≡◌, length};
 ghost use Rattle.answers.specs.Said.{refusal_of, cells_after};
-ghost use Rattle.joltwagon.specs.Decoding.{decoded_said, decode_said, next_said, count_said};
+ghost use Rattle.joltwagon.specs.Decoding.{decoded_said, counted_said, decode_said, next_said, count_said};
 
 use answers::{flag, hand, size};
 use decoder::Decoded;
-use ground::refusals::UNKNOWN;
+use ground::refusals::Refusal;
 use values::pages::{Page, is_page};
 
-fn hand_decoded(d: Decoded, answer: &mut [u16]) -> u8
-    ensures value { result ≡ refusal_of (decoded_said d) (length answer.old) }
-    ensures answer_after { answer.new ≡ cells_after (decoded_said d) answer.old }
+fn hand_instruction(d: Decoded, answer: &mut [u16]) -> u8
+    ensures value { result ≡ refusal_of (decoded_said (Ok d)) (length answer.old) }
+    ensures answer_after { answer.new ≡ cells_after (decoded_said (Ok d)) answer.old }
 {
     let meaning = d.meaning;
     let kind = meaning.kind;
@@ -26,7 +26,30 @@ fn hand_decoded(d: Decoded, answer: &mut [u16]) -> u8
         parts.second as u16,
         parts.number,
     ];
-    hand(d.refusal, &cells, answer)
+    hand(0, &cells, answer)
+}
+
+fn hand_decoded(read: Result<Decoded, Refusal>, answer: &mut [u16]) -> u8
+    ensures value { result ≡ refusal_of (decoded_said read) (length answer.old) }
+    ensures answer_after { answer.new ≡ cells_after (decoded_said read) answer.old }
+{
+    match read {
+        Ok(d) => hand_instruction(d, answer),
+        Err(refusal) => refusal.number(),
+    }
+}
+
+fn hand_count(counted: Result<usize, Refusal>, answer: &mut [u16]) -> u8
+    ensures value { result ≡ refusal_of (counted_said counted) (length answer.old) }
+    ensures answer_after { answer.new ≡ cells_after (counted_said counted) answer.old }
+{
+    match counted {
+        Ok(count) => {
+            let cells = size(count);
+            hand(0, &cells, answer)
+        }
+        Err(refusal) => refusal.number(),
+    }
 }
 
 // The instruction at the front of bytes that stand from an address on, read under a page.
@@ -39,7 +62,7 @@ pub extern "C" fn jw_decode(bytes: &[u8], address: u16, page: u16, answer: &mut 
         let under = Page::numbered(page);
         return hand_decoded(decoder::decode(bytes, address, under), answer);
     }
-    UNKNOWN
+    Refusal::Unknown as u8
 }
 
 // The instruction that begins at a place of a run, whose first byte stands at the address.
@@ -58,7 +81,7 @@ pub extern "C" fn jw_next(
         let under = Page::numbered(page);
         return hand_decoded(decoder::next_of_run(bytes, address, under, at), answer);
     }
-    UNKNOWN
+    Refusal::Unknown as u8
 }
 
 // How many instructions a run has, from its first byte to its last.
@@ -69,9 +92,7 @@ pub extern "C" fn jw_count(bytes: &[u8], address: u16, page: u16, answer: &mut [
 {
     if is_page(page) {
         let under = Page::numbered(page);
-        let counted = decoder::count_run(bytes, address, under);
-        let cells = size(counted.count);
-        return hand(counted.refusal, &cells, answer);
+        return hand_count(decoder::count_run(bytes, address, under), answer);
     }
-    UNKNOWN
+    Refusal::Unknown as u8
 }

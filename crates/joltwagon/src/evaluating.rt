@@ -19,16 +19,20 @@ pub extern "C" fn jw_node(
     ensures value { result ≡ refusal_of (evaluated_said (node_answers nodes.now labels.now node location)) (length answer.old) }
     ensures answer_after { answer.new ≡ cells_after (evaluated_said (node_answers nodes.now labels.now node location)) answer.old }
 {
-    let found = expressions::node_pair(nodes, labels, node, location);
-    let unsigned = found.unsigned;
-    let signed = found.signed;
-    let cells = [
-        unsigned.number,
-        unsigned.width as u16,
-        signed.number,
-        signed.width as u16,
-    ];
-    hand(found.refusal, &cells, answer)
+    match expressions::node_pair(nodes, labels, node, location) {
+        Ok(found) => {
+            let unsigned = found.unsigned;
+            let signed = found.signed;
+            let cells = [
+                unsigned.number,
+                unsigned.width as u16,
+                signed.number,
+                signed.width as u16,
+            ];
+            hand(0, &cells, answer)
+        }
+        Err(why) => hand(why.number(), &[], answer),
+    }
 }
 
 // The value of a label, as stored in its width.
@@ -37,10 +41,13 @@ pub extern "C" fn jw_label(nodes: &[u16], labels: &[u16], label: u16, answer: &m
     ensures value { result ≡ refusal_of (value_said (label_answer nodes.now labels.now label)) (length answer.old) }
     ensures answer_after { answer.new ≡ cells_after (value_said (label_answer nodes.now labels.now label)) answer.old }
 {
-    let found = expressions::label_value(nodes, labels, label);
-    let value = found.value;
-    let cells = [value.number, value.width as u16];
-    hand(found.refusal, &cells, answer)
+    match expressions::label_value(nodes, labels, label) {
+        Ok(value) => {
+            let cells = [value.number, value.width as u16];
+            hand(0, &cells, answer)
+        }
+        Err(why) => hand(why.number(), &[], answer),
+    }
 }
 
 // Moves each label whose address lies from `left` to `right`, both ends counted, on by `by`, modulo 65536. Nothing is refused.

@@ -6,7 +6,7 @@ ghost use Rattle.joltwagon.specs.Explaining.{reason_cells, explained_said, why_s
 
 use crate::instructing::{BUILD, RECORD, hand_built};
 use answers::{beside, flag, hand_both};
-use ground::refusals::UNKNOWN;
+use ground::refusals::Refusal;
 use why::{Explained, Parts, explain};
 
 // The reason's number and its values; its field is told in the return.
@@ -45,7 +45,7 @@ pub extern "C" fn jw_why(row: &[u16], address: u16, answer: &mut [u16]) -> u32
     ensures answer_after { answer.new ≡ cells_after (why_said row.now address) answer.old }
 {
     if row.len() < RECORD {
-        return beside(UNKNOWN, 0);
+        return beside(Refusal::Unknown as u8, 0);
     }
     hand_explained(explain(row, address), answer)
 }

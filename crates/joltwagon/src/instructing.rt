@@ -1,13 +1,14 @@
 // Instructions: made of a record, built fresh, and built again as kept.
 ghost use Rattle.std.specs.Prelude.{◌≡◌, length};
 ghost use Rattle.answers.specs.Said.{refusal_of, cells_after};
+ghost use Rattle.instruction.specs.Sequences.{told_of};
 ghost use Rattle.joltwagon.specs.Instructing.{front_cells, built_said, make_said, assemble_said, build_said};
 
 use crate::kept::{is_kept, is_present, kept_cells, present_of};
 use answers::{flag, hand, hand_both, wide};
 use entries::{entry_of, kept_of, page_in};
-use ground::refusals::UNKNOWN;
-use instruction::{Built, Instruction, assemble};
+use ground::refusals::Refusal;
+use instruction::{Built, Instruction, Refused, assemble};
 
 pub(crate) const RECORD: usize = 21;
 
@@ -29,14 +30,29 @@ fn front_cells(b: Built) -> [u16; 7]
     ]
 }
 
-pub(crate) fn hand_built(b: Built, answer: &mut [u16]) -> u8
-    ensures value { result ≡ refusal_of (built_said b) (length answer.old) }
-    ensures answer_after { answer.new ≡ cells_after (built_said b) answer.old }
+pub(crate) fn hand_built(built: Result<Built, Refusal>, answer: &mut [u16]) -> u8
+    ensures value { result ≡ refusal_of (built_said built) (length answer.old) }
+    ensures answer_after { answer.new ≡ cells_after (built_said built) answer.old }
 {
-    let instruction = b.instruction;
-    let front = front_cells(b);
-    let kept = kept_cells(instruction);
-    hand_both(b.refusal, &front, &kept, answer)
+    match built {
+        Ok(b) => {
+            let instruction = b.instruction;
+            let front = front_cells(b);
+            let kept = kept_cells(instruction);
+            hand_both(0, &front, &kept, answer)
+        }
+        Err(n) => n.number(),
+    }
+}
+
+// Beside a refusal the kept instruction stays as it was, so its row is not handed out.
+fn told(built: Result<Built, Refused>) -> Result<Built, Refusal>
+    ensures { result ≡ told_of built }
+{
+    match built {
+        Ok(b) => Ok(b),
+        Err(refused) => Err(refused.refusal),
+    }
 }
 
 // Makes an instruction of a record: the answer is its row.
@@ -46,12 +62,15 @@ pub extern "C" fn jw_make(row: &[u16], answer: &mut [u16]) -> u8
     ensures answer_after { answer.new ≡ cells_after (make_said row.now) answer.old }
 {
     if row.len() < RECORD {
-        return UNKNOWN;
+        return Refusal::Unknown as u8;
     }
-    let made = Instruction::make(entry_of(row));
-    let instruction = made.instruction;
-    let kept = kept_cells(instruction);
-    hand(made.refusal, &kept, answer)
+    match Instruction::make(entry_of(row)) {
+        Ok(instruction) => {
+            let kept = kept_cells(instruction);
+            hand(0, &kept, answer)
+        }
+        Err(n) => n.number(),
+    }
 }
 
 // A fresh instruction, made and built from one record.
@@ -61,7 +80,7 @@ pub extern "C" fn jw_assemble(row: &[u16], address: u16, answer: &mut [u16]) -> 
     ensures answer_after { answer.new ≡ cells_after (assemble_said row.now address) answer.old }
 {
     if row.len() < RECORD {
-        return UNKNOWN;
+        return Refusal::Unknown as u8;
     }
     hand_built(assemble(entry_of(row), address), answer)
 }
@@ -77,7 +96,7 @@ pub extern "C" fn jw_build(kept: &[u16], present: &[u16], address: u16, answer: 
         let instruction = kept_of(kept);
         let values = present_of(present);
         let page = page_in(present, 0);
-        return hand_built(instruction.build(values, page, address), answer);
+        return hand_built(told(instruction.build(values, page, address)), answer);
     }
-    UNKNOWN
+    Refusal::Unknown as u8
 }

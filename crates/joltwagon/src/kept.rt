@@ -4,7 +4,7 @@ ghost use Rattle.joltwagon.specs.Kept.{is_kept, kept_cells, is_present, present_
 
 use answers::{flag, wide};
 use entries::{byte_in, flag_in, is_flag, is_page_in};
-use ground::tables::cell;
+use ground::tables::cell_or;
 use instruction::{Instruction, Values};
 use values::Value;
 
@@ -61,11 +61,11 @@ pub(crate) fn present_of(row: &[u16]) -> Values
 {
     let given = flag_in(row, 1);
     let unsigned = Value {
-        number: cell(row, 2),
+        number: cell_or(row, 2, 0),
         width: byte_in(row, 3),
     };
     let signed = Value {
-        number: cell(row, 4),
+        number: cell_or(row, 4, 0),
         width: byte_in(row, 5),
     };
     Values {

@@ -11,4 +11,5 @@ mod kept;
 pub mod lists;
 pub mod placing;
 pub mod settling;
+mod sized;
 pub mod texts;

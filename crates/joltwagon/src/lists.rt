@@ -1,7 +1,7 @@
 // A list of records, laid end to end.
 ghost use Rattle.joltwagon.specs.Lists.{ListLaid};
 
-use answers::{hand, late, size};
+use crate::sized::{hand_size, late_size};
 
 // Lays the list into the front of a buffer. An answer's slice that is too short is found before anything is stored.
 #[unsafe(no_mangle)]
@@ -9,10 +9,7 @@ pub extern "C" fn jw_lay(list: &[u16], address: u16, out: &mut [u8], answer: &mu
     ensures { ListLaid list.now address out.old answer.old result out.new answer.new }
 {
     if answer.len() < 4 {
-        let unlaid = laying::measure(list, address, out.len());
-        return late(unlaid.refusal);
+        return late_size(laying::measure(list, address, out.len()));
     }
-    let laid = laying::lay(list, address, out);
-    let cells = size(laid.length);
-    hand(laid.refusal, &cells, answer)
+    hand_size(laying::lay(list, address, out), answer)
 }

@@ -3,19 +3,19 @@ ghost use Rattle.std.specs.Prelude.{◌≡◌, length};
 ghost use Rattle.answers.specs.Said.{refusal_of, cells_after};
 ghost use Rattle.records.specs.Written.{longest, written_of};
 ghost use Rattle.reader.specs.Answers.{read_of};
-ghost use Rattle.joltwagon.specs.Texts.{written_said, TextWritten, TextRead};
+ghost use Rattle.joltwagon.specs.Sizes.{size_said};
+ghost use Rattle.joltwagon.specs.Texts.{read_said, TextWritten, TextRead};
 
-use answers::{hand, hand_both, late, size};
+use crate::sized::{hand_size, late_size};
+use answers::{hand_both, late, size};
 
 // How long the text of the objects is, for a caller that has yet to find a buffer.
 #[unsafe(no_mangle)]
 pub extern "C" fn jw_text_size(objects: &[u16], values: &[u16], answer: &mut [u16]) -> u8
-    ensures value { result ≡ refusal_of (written_said (written_of objects.now values.now longest)) (length answer.old) }
-    ensures answer_after { answer.new ≡ cells_after (written_said (written_of objects.now values.now longest)) answer.old }
+    ensures value { result ≡ refusal_of (size_said (written_of objects.now values.now longest)) (length answer.old) }
+    ensures answer_after { answer.new ≡ cells_after (size_said (written_of objects.now values.now longest)) answer.old }
 {
-    let written = records::text_size(objects, values);
-    let cells = size(written.length);
-    hand(written.refusal, &cells, answer)
+    hand_size(records::text_size(objects, values), answer)
 }
 
 // Writes the text of the objects to the front of a buffer. An answer's slice that is too short is found before anything is stored.
@@ -29,12 +29,9 @@ pub extern "C" fn jw_write_text(
     ensures { TextWritten objects.now values.now out.old answer.old result out.new answer.new }
 {
     if answer.len() < 4 {
-        let unwritten = records::text_size(objects, values);
-        return late(unwritten.refusal);
+        return late_size(records::text_size(objects, values));
     }
-    let written = records::write_text(objects, values, out);
-    let cells = size(written.length);
-    hand(written.refusal, &cells, answer)
+    hand_size(records::write_text(objects, values, out), answer)
 }
 
 // Reads a text: its data bytes at the front of `bytes`, one run after the other, and at the front of `runs` a row of two for each run. How many
@@ -51,18 +48,20 @@ pub extern "C" fn jw_read_text(
     if answer.len() < 8 {
         return late(refusal_of(text));
     }
-    let read = reader::read_text(text, bytes, runs);
-    let sized = size(read.bytes);
-    let counted = size(read.runs);
-    hand_both(read.refusal, &sized, &counted, answer)
+    match reader::read_text(text, bytes, runs) {
+        Ok(read) => hand_both(0, &size(read.bytes), &size(read.runs), answer),
+        Err(refusal) => refusal.number(),
+    }
 }
 
-// What a text is refused for by itself, or for want of any room.
+// What a text is refused for by itself, or for want of any room: its number, 0 for none, as C gets it.
 fn refusal_of(text: &[u8]) -> u8
-    ensures { result ≡ (read_of text.now 0 0).refusal }
+    ensures { result ≡ (read_said (read_of text.now 0 0)).refusal }
 {
     let mut nowhere = [0; 0];
     let mut none = [0; 0];
-    let read = reader::read_text(text, &mut nowhere, &mut none);
-    read.refusal
+    match reader::read_text(text, &mut nowhere, &mut none) {
+        Ok(_) => 0,
+        Err(refusal) => refusal.number(),
+    }
 }

@@ -4,7 +4,10 @@ use mathlib.Core.Path.{◌≡◌, refl}
 use mathlib.Core.List.{List, [], ◌∷◌, ◌++◌, map}
 use Prim.Native.Nat.{ℕ}
 use lib.ListN.{replicate}
+use Rattle.std.specs.Prelude.{Result, Ok, Err}
 use Rattle.ground.specs.Choice.{pick}
+use Rattle.ground.specs.declared.refusals.Refusal.{Refusal}
+use Rattle.ground.specs.declared.refusals.Refusal.TheVariants.{Unknown, BadRegister, SingleStepIndirect, BranchTooFar, NoRoom, OverLimit, Beyond}
 use Rattle.values.specs.Widths.{bits_of, extended, valid_of, sign_extended_of}
 use Rattle.values.specs.Pages.{is_page, page_numbered}
 use Rattle.rows.specs.Sheet.{page0, page10, page11, table_of}
@@ -18,10 +21,10 @@ use Rattle.instruction.specs.Records.{stepped, recognised, narrower, agreeing, l
 use Rattle.instruction.specs.Forms.{becomes_direct, extended_form, register_form, form_of, strays, lacks, needs_value}
 use Rattle.instruction.specs.Choosing.{inherent_of, anew_as, anew_of, address_of, long_branch, branch_of, accumulator_index, offset_value, offset_index, target_index, step_index, index_of, choose_of}
 use Rattle.instruction.specs.Bytes.{number_bytes, operand_bytes, code_size, behind_code, laid_at, laid_of}
-use Rattle.instruction.specs.Building.{instruction_of, made_as, make_of, early_of, dirties_of, accepted_of, finished_of, build_of, handed, fresh_from, fresh_of}
+use Rattle.instruction.specs.Building.{instruction_of, made_as, make_of, early_of, dirties_of, accepted_of, tried_of, fresh_of}
 use Rattle.entries.specs.Entries.{byte_in, is_flag, flag_in, is_page_in, page_in, flagged_in, registers_in, fields_in, told_in, value_in, values_in, all_flagged, entry_of}
 use Rattle.laying.specs.Entries.{entry_at, rows_in, entries_from, entries_of}
-use Rattle.laying.specs.Laying.{Outcome, Refused, Bytes, built_at, refusal_at, lay_from, lay_of}
+use Rattle.laying.specs.Laying.{built_at, lay_from, lay_of}
 
 -- ---- rows
 -- a row with no step, no forced form, widening allowed, and at most one register: operation, mode, indirect, page, count, register; then whether
@@ -114,7 +117,7 @@ all_laid =
 pub data Question : Type 0 where
   lay : (list : List ℕ) (address room : ℕ) → Question
 
-abbrev ask : Question → Outcome
+abbrev ask : Question → Result (List ℕ) Refusal
 ask (lay list address room) = lay_of list address room
 
 abbrev asked : List Question
@@ -147,30 +150,30 @@ asked =
     ∷ lay (replicate 21524 0) 0 0
     ∷ []
 
-abbrev answered : List Outcome
+abbrev answered : List (Result (List ℕ) Refusal)
 answered =
-    Bytes all_laid
-    ∷ Refused 9
-    ∷ Refused 5
-    ∷ Bytes (0xA6 ∷ 0x8D ∷ 0x00 ∷ 0x7F ∷ [])
-    ∷ Bytes (0x20 ∷ 0x7F ∷ [])
-    ∷ Bytes (0x16 ∷ 0x00 ∷ 0x7F ∷ [])
-    ∷ Bytes (0x20 ∷ 0x80 ∷ [])
-    ∷ Bytes (0x16 ∷ 0xFF ∷ 0x7E ∷ [])
-    ∷ Bytes (0x12 ∷ [])
-    ∷ Refused 18
-    ∷ Refused 9
-    ∷ Refused 18
-    ∷ Refused 5
-    ∷ Refused 8
-    ∷ Refused 18
-    ∷ Refused 1
-    ∷ Refused 1
-    ∷ Bytes []
-    ∷ Refused 17
-    ∷ Refused 4
+    Ok all_laid
+    ∷ Err NoRoom
+    ∷ Err SingleStepIndirect
+    ∷ Ok (0xA6 ∷ 0x8D ∷ 0x00 ∷ 0x7F ∷ [])
+    ∷ Ok (0x20 ∷ 0x7F ∷ [])
+    ∷ Ok (0x16 ∷ 0x00 ∷ 0x7F ∷ [])
+    ∷ Ok (0x20 ∷ 0x80 ∷ [])
+    ∷ Ok (0x16 ∷ 0xFF ∷ 0x7E ∷ [])
+    ∷ Ok (0x12 ∷ [])
+    ∷ Err Beyond
+    ∷ Err NoRoom
+    ∷ Err Beyond
+    ∷ Err SingleStepIndirect
+    ∷ Err BranchTooFar
+    ∷ Err Beyond
+    ∷ Err Unknown
+    ∷ Err Unknown
+    ∷ Ok []
+    ∷ Err OverLimit
+    ∷ Err BadRegister
     ∷ []
 
 pub cases : map ask asked ≡ answered
-unfolding pick bits_of extended valid_of sign_extended_of is_page page_numbered table_of page0 page10 page11 merged_of placed has_form_of known_of code_of is_wide is_long number_at number_size_of long_from long_of any_unknown strange_list among marked sized_of constant_of offset_of relative_of stepped recognised narrower agreeing lawful sound becomes_direct extended_form register_form form_of strays lacks needs_value inherent_of anew_as anew_of address_of long_branch branch_of accumulator_index offset_value offset_index target_index step_index index_of choose_of number_bytes operand_bytes code_size behind_code laid_at laid_of instruction_of made_as make_of early_of dirties_of accepted_of finished_of build_of handed fresh_from fresh_of byte_in is_flag flag_in is_page_in page_in flagged_in registers_in fields_in told_in value_in values_in all_flagged entry_of entry_at rows_in entries_from entries_of built_at refusal_at lay_from lay_of
+unfolding pick bits_of extended valid_of sign_extended_of is_page page_numbered table_of page0 page10 page11 merged_of placed has_form_of known_of code_of is_wide is_long number_at number_size_of long_from long_of any_unknown strange_list among marked sized_of constant_of offset_of relative_of stepped recognised narrower agreeing lawful sound becomes_direct extended_form register_form form_of strays lacks needs_value inherent_of anew_as anew_of address_of long_branch branch_of accumulator_index offset_value offset_index target_index step_index index_of choose_of number_bytes operand_bytes code_size behind_code laid_at laid_of instruction_of made_as make_of early_of dirties_of accepted_of tried_of fresh_of byte_in is_flag flag_in is_page_in page_in flagged_in registers_in fields_in told_in value_in values_in all_flagged entry_of entry_at rows_in entries_from entries_of built_at lay_from lay_of
 cases = refl

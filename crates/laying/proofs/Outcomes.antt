@@ -1,60 +1,68 @@
--- Outcomes put together, and one step of laying.
+-- Laid bytes put together, and one step of laying.
 -- Assumes nothing.
 use mathlib.Core.Path.{◌≡◌, refl, sym, ap}
-use mathlib.Core.Bool.{Bool, true, false, true≢false}
 use mathlib.Core.List.{List, [], ◌∷◌, ◌++◌, append_assoc}
 use Prim.Native.Nat.{ℕ, ◌+◌, ◌-◌}
-use borrow.Author.Tests.{eq-eqb, ne_eqb}
-use Rattle.ground.proofs.Choices.{pick_true, pick_false}
+use lib.ListN.{length}
+use Rattle.std.specs.Prelude.{Result, Ok, Err}
+use Rattle.ground.specs.declared.refusals.Refusal.{Refusal}
 use Rattle.instruction.specs.declared.Record.{Record}
-use Rattle.instruction.specs.Building.{bytes_in}
-use Rattle.laying.specs.Laying.{Outcome, Refused, Bytes, built_at, refusal_at, before, lay_from}
+use Rattle.instruction.specs.Building.{size_told, bytes_told}
+use Rattle.laying.specs.Laying.{built_at, size_at, before, after, lay_from, answer_of}
 
--- ---- bytes before an outcome
-pub before_none : (o : Outcome) → before [] o ≡ o
-before_none (Refused n) = refl
-before_none (Bytes rest) = refl
+-- ---- bytes before what follows
+pub before_none : (o : Result (List ℕ) Refusal) → before [] o ≡ o
+before_none (Ok rest) = refl
+before_none (Err refusal) = refl
 
-pub before_before : (xs ys : List ℕ) (o : Outcome) → before xs (before ys o) ≡ before (xs ++ ys) o
-before_before xs ys (Refused n) = refl
-before_before xs ys (Bytes rest) = ap Bytes (sym (append_assoc xs ys rest))
-
--- ---- a refusal is no bytes
-abbrev is_laid : Outcome → Bool
-is_laid (Refused n) = false
-is_laid (Bytes bytes) = true
-
-abbrev laid_of : Outcome → List ℕ
-laid_of (Refused n) = []
-laid_of (Bytes bytes) = bytes
-
-pub never : {n : ℕ} {bytes : List ℕ} → Refused n ≡ Bytes bytes → ⊥
-never e = true≢false (sym (ap is_laid e))
-
-pub same_bytes : {xs ys : List ℕ} → Bytes xs ≡ Bytes ys → xs ≡ ys
-same_bytes e = ap laid_of e
+pub before_before : (xs ys : List ℕ) (o : Result (List ℕ) Refusal) → before xs (before ys o) ≡ before (xs ++ ys) o
+before_before xs ys (Ok rest) = ap Ok (sym (append_assoc xs ys rest))
+before_before xs ys (Err refusal) = refl
 
 -- where there are bytes at last, there were bytes after the first
-pub record Rest (xs : List ℕ) (o : Outcome) (bytes : List ℕ) : Type 0 where
+pub record Rest (xs : List ℕ) (o : Result (List ℕ) Refusal) (bytes : List ℕ) : Type 0 where
   pub rest : List ℕ
-  pub outcome : o ≡ Bytes rest
+  pub outcome : o ≡ Ok rest
   pub whole : xs ++ rest ≡ bytes
 
-pub rest_of : (xs : List ℕ) (o : Outcome) (bytes : List ℕ) → before xs o ≡ Bytes bytes → Rest xs o bytes
-rest_of xs (Refused n) bytes e = absurd (never e)
-rest_of xs (Bytes rest) bytes e = record { rest = rest; outcome = refl; whole = same_bytes e }
+pub rest_of : (xs : List ℕ) (o : Result (List ℕ) Refusal) (bytes : List ℕ) → before xs o ≡ Ok bytes → Rest xs o bytes
+rest_of xs (Ok rest) bytes e = record { rest = rest; outcome = refl; whole = cc }
+rest_of xs (Err refusal) bytes e = cc
+
+-- and the instruction before them was not refused
+pub record Passed (r : Result ℕ Refusal) (o : Result (List ℕ) Refusal) (bytes : List ℕ) : Type 0 where
+  pub size : ℕ
+  pub found : r ≡ Ok size
+  pub outcome : o ≡ Ok bytes
+
+pub passed_of : (r : Result ℕ Refusal) (o : Result (List ℕ) Refusal) (bytes : List ℕ) → after r o ≡ Ok bytes → Passed r o bytes
+passed_of (Ok size) o bytes e = record { size = size; found = refl; outcome = e }
+passed_of (Err refusal) o bytes e = cc
+
+-- what is answered is told of bytes
+pub record Answered (o : Result (List ℕ) Refusal) (n : ℕ) : Type 0 where
+  pub bytes : List ℕ
+  pub outcome : o ≡ Ok bytes
+  pub size : n ≡ length bytes
+
+pub answered_of : (o : Result (List ℕ) Refusal) (n : ℕ) → answer_of o ≡ Ok n → Answered o n
+answered_of (Ok bytes) n e = record { bytes = bytes; outcome = refl; size = cc }
+answered_of (Err refusal) n e = cc
+
+pub refused_of : (o : Result (List ℕ) Refusal) (refusal : Refusal) → answer_of o ≡ Err refusal → o ≡ Err refusal
+refused_of (Ok bytes) refusal e = cc
+refused_of (Err n) refusal e = let same : n ≡ refusal = cc in ap Err same
 
 -- ---- one step
 module _ (entry : Record) (entries : List Record) (at room : ℕ) where
   pub step_accepted :
-      refusal_at (built_at entry at) at room ≡ 0 →
+      {n : ℕ} →
+      size_at (built_at entry at) at room ≡ Ok n →
       lay_from (entry ∷ entries) at room
-      ≡ before (bytes_in (built_at entry at)) (lay_from entries (at + (built_at entry at).length) (room - (built_at entry at).length))
+      ≡ before (bytes_told (built_at entry at)) (lay_from entries (at + size_told (built_at entry at)) (room - size_told (built_at entry at)))
   unfolding lay_from
-  step_accepted z = pick_true _ _ (eq-eqb (refusal_at (built_at entry at) at room) 0 z)
+  step_accepted z = rw z
 
-  pub step_refused :
-      (refusal_at (built_at entry at) at room ≡ 0 → ⊥) →
-      lay_from (entry ∷ entries) at room ≡ Refused (refusal_at (built_at entry at) at room)
+  pub step_refused : {refusal : Refusal} → size_at (built_at entry at) at room ≡ Err refusal → lay_from (entry ∷ entries) at room ≡ Err refusal
   unfolding lay_from
-  step_refused z = pick_false _ _ (ne_eqb (refusal_at (built_at entry at) at room) 0 z)
+  step_refused z = rw z

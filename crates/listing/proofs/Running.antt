@@ -1,17 +1,21 @@
 -- The lines of a run: an accepted instruction and then the lines after it, a refused one the last.
 -- Assumes nothing.
-use borrow.Author.Tests.{le-ltb, eq-eqb, ne_eqb}
+use borrow.Author.Tests.{le-ltb}
 use mathlib.Core.Path.{◌≡◌, refl, sym, ap, ◌∙◌, subst}
 use mathlib.Core.List.{List}
 use Prim.Native.Nat.{ℕ, ◌+◌, ◌-◌, ◌*◌, ◌≤◌, ◌<◌}
 use native.Mathlib.Omega.{arith}
 use lib.ListN.{length, take, drop, length-drop}
 use lib.Seq.{drop-drop, length-take-le}
+use Rattle.std.specs.Prelude.{Some, None, Ok, Err}
+use Rattle.ground.specs.declared.refusals.Refusal.{Refusal}
+use Rattle.ground.specs.Refusals.{number_of}
 use Rattle.ground.specs.Stores.{Wrote}
-use Rattle.ground.proofs.Choices.{pick_true, pick_false}
+use Rattle.ground.proofs.Choices.{pick_false}
 use Rattle.ground.proofs.Stores.{kept}
 use Rattle.decoder.specs.declared.Decoded.{Decoded}
 use Rattle.decoder.specs.Origin.{shifted, outside}
+use Rattle.decoder.specs.Meaning.{Answer}
 use Rattle.decoder.specs.Front.{front_of}
 use Rattle.decoder.specs.Run.{run_of, next_of}
 use Rattle.decoder.proofs.Runs.{run_at, accepted_size, next_accepted, next_refused, next_none, run_start}
@@ -31,39 +35,37 @@ module _ (bytes : List ℕ) (address : ℕ) (near : address + length bytes ≤ 6
   ahead_start : address < 65536 → (rest : Lines) → whole bytes address rest ≡ ahead bytes address 0 rest
   unfolding outside
   ahead_start h rest =
-      ap (λ (ds : List Decoded). in_run address bytes ds rest) (run_start bytes (read_from address) h (le-ltb 65536 (address + length bytes) near))
+      ap (λ (ds : List Answer). in_run address bytes ds rest) (run_start bytes (read_from address) h (le-ltb 65536 (address + length bytes) near))
       ∙ ap (λ (a : ℕ). in_run a bytes (run_at bytes (read_from address) 0) rest) (omega arith)
 
-  module _ (place : ℕ) (d : Decoded) (e : d ≡ next_of bytes (read_from address) place) where
-    front : front_of (drop place bytes) (shifted (read_from address) place) ≡ d
+  module _ (place : ℕ) where
+    front : (x : Answer) → next_of bytes (read_from address) place ≡ x → front_of (drop place bytes) (shifted (read_from address) place) ≡ x
     unfolding next_of outside
-    front = sym (e ∙ pick_false _ _ (le-ltb 65536 (address + length bytes) near))
+    front x e = sym (pick_false _ _ (le-ltb 65536 (address + length bytes) near)) ∙ e
 
     -- an accepted instruction has a byte at least, and ends within the run
-    pub size_there : place < length bytes → d.refusal ≡ 0 → (1 ≤ d.length) × (place + d.length ≤ length bytes)
-    size_there h z =
-        let s = accepted_size (drop place bytes) (shifted (read_from address) place) d front z in
+    pub size_there : (d : Decoded) → next_of bytes (read_from address) place ≡ Ok d → place < length bytes → (1 ≤ d.length) × (place + d.length ≤ length bytes)
+    size_there d e h =
+        let s = accepted_size (drop place bytes) (shifted (read_from address) place) d (front (Ok d) e) in
         (s.0, omega (arith, s.1, length-drop place bytes))
 
     ahead_next :
-        d.refusal ≡ 0 → (rest : Lines) →
+        (d : Decoded) → next_of bytes (read_from address) place ≡ Ok d → (rest : Lines) →
         ahead bytes address place rest ≡ Instruction (address + place) (take d.length (drop place bytes)) (ahead bytes address (place + d.length) rest)
-    ahead_next z rest =
+    ahead_next d e rest =
         let later = run_at bytes (read_from address) (place + d.length) in
         let first = take d.length (drop place bytes) in
-        ap (λ (ds : List Decoded). in_run (address + place) (drop place bytes) ds rest) (next_accepted bytes (read_from address) place d front z)
-        ∙ pick_true _ _ (eq-eqb d.refusal 0 z)
+        ap (λ (ds : List Answer). in_run (address + place) (drop place bytes) ds rest) (next_accepted bytes (read_from address) place d (front (Ok d) e))
         ∙ ap (λ (l : List ℕ). Instruction (address + place) first (in_run (address + place + d.length) l later rest)) (drop-drop d.length place bytes)
         ∙ ap (λ (a : ℕ). Instruction (address + place) first (in_run a (drop (place + d.length) bytes) later rest)) (omega arith)
 
-    ahead_refused : place < length bytes → (d.refusal ≡ 0 → ⊥) → (rest : Lines) → ahead bytes address place rest ≡ Refused d.refusal
-    ahead_refused h z rest =
-        ap (λ (ds : List Decoded). in_run (address + place) (drop place bytes) ds rest) (next_refused bytes (read_from address) place d front h z)
-        ∙ pick_false _ _ (ne_eqb d.refusal 0 z)
+    ahead_refused : (e : Refusal) → next_of bytes (read_from address) place ≡ Err e → place < length bytes → (rest : Lines) → ahead bytes address place rest ≡ Refused (number_of e)
+    ahead_refused e q h rest =
+        ap (λ (ds : List Answer). in_run (address + place) (drop place bytes) ds rest) (next_refused bytes (read_from address) place e (front (Err e) q) h)
 
 ahead_none : (bytes : List ℕ) (address place : ℕ) → length bytes ≤ place → (rest : Lines) → ahead bytes address place rest ≡ rest
 ahead_none bytes address place h rest =
-    ap (λ (ds : List Decoded). in_run (address + place) (drop place bytes) ds rest) (next_none bytes (read_from address) place h)
+    ap (λ (ds : List Answer). in_run (address + place) (drop place bytes) ds rest) (next_none bytes (read_from address) place h)
 
 -- what holds at each turn: the lines from the place on, written from here on, lead to what the whole run leads to
 pub record Running (d : List ℕ) (at₀ count₀ : ℕ) (bytes : List ℕ) (address : ℕ) (e : List ℕ) (at count place : ℕ) : Type 0 where
@@ -91,36 +93,38 @@ module _ (d : List ℕ) (at₀ count₀ : ℕ) (bytes : List ℕ) (address : ℕ
     to : (rest l : Lines) → ahead bytes address place rest ≡ l → Leads d at₀ (printed count₀ (whole bytes address rest)) e at (printed count l)
     to rest l q = subst (λ (x : Lines). Leads d at₀ (printed count₀ (whole bytes address rest)) e at (printed count x)) q (r.lead rest)
 
-    module _ (x : Decoded) (q : x ≡ next_of bytes (read_from address) place) (h : place < length bytes) where
-      pub running_next :
-          {f : List ℕ} {m : ℕ} (n : ℕ) → n ≡ x.length → x.refusal ≡ 0
-          → Wrote e at (line_of (address + place) (take n (drop place bytes))) m f
-          → Running d at₀ count₀ bytes address f m (count + 1) (place + x.length)
-      running_next {f} {m} n k z wn =
-          let w = subst (λ (j : ℕ). Wrote e at (line_of (address + place) (take j (drop place bytes))) m f) k wn in
-          let z₁ = size_there bytes address near place x q h z in
-          let own = length-take-le x.length (drop place bytes) (omega (arith, z₁.1, length-drop place bytes)) in
-          let long = line_length (address + place) (take x.length (drop place bytes)) in
-          record {
-            lead = λ rest.
-                leads_on (printed (count + 1) (ahead bytes address (place + x.length) rest))
-                (to rest _ (ahead_next bytes address near place x q z rest)) w;
-            short = omega (arith, z₁.0, z₁.1, own, long, w.next, r.short);
-            fewer = omega (arith, long, w.next, r.fewer);
-            within = z₁.1;
-            room = kept w ∙ r.room;
-          }
+    pub running_next :
+        (x : Decoded) → next_of bytes (read_from address) place ≡ Ok x → place < length bytes →
+        {f : List ℕ} {m : ℕ} (n : ℕ) → n ≡ x.length
+        → Wrote e at (line_of (address + place) (take n (drop place bytes))) m f
+        → Running d at₀ count₀ bytes address f m (count + 1) (place + x.length)
+    running_next x q h {f} {m} n k wn =
+        let w = subst (λ (j : ℕ). Wrote e at (line_of (address + place) (take j (drop place bytes))) m f) k wn in
+        let z₁ = size_there bytes address near place x q h in
+        let own = length-take-le x.length (drop place bytes) (omega (arith, z₁.1, length-drop place bytes)) in
+        let long = line_length (address + place) (take x.length (drop place bytes)) in
+        record {
+          lead = λ rest.
+              leads_on (printed (count + 1) (ahead bytes address (place + x.length) rest))
+              (to rest _ (ahead_next bytes address near place x q rest)) w;
+          short = omega (arith, z₁.0, z₁.1, own, long, w.next, r.short);
+          fewer = omega (arith, long, w.next, r.fewer);
+          within = z₁.1;
+          room = kept w ∙ r.room;
+        }
 
-      pub running_refused : (x.refusal ≡ 0 → ⊥) → Passed d at₀ count₀ (whole bytes address) (length bytes) (record { at = at; count = count; refusal = x.refusal }) e
-      running_refused z = record {
-        lead = λ rest. to rest _ (ahead_refused bytes address near place x q h z rest ∙ sym (pick_false _ _ (ne_eqb x.refusal 0 z)));
-        short = omega (arith, r.short);
-        fewer = r.fewer;
-      }
+    pub running_refused :
+        (x : Refusal) → next_of bytes (read_from address) place ≡ Err x → place < length bytes
+        → Passed d at₀ count₀ (whole bytes address) (length bytes) (record { at = at; count = count; refusal = Some x }) e
+    running_refused x q h = record {
+      lead = λ rest. to rest _ (ahead_refused bytes address near place x q h rest);
+      short = omega (arith, r.short);
+      fewer = r.fewer;
+    }
 
-    pub running_end : length bytes ≤ place → Passed d at₀ count₀ (whole bytes address) (length bytes) (record { at = at; count = count; refusal = 0 }) e
+    pub running_end : length bytes ≤ place → Passed d at₀ count₀ (whole bytes address) (length bytes) (record { at = at; count = count; refusal = None }) e
     running_end h = record {
-      lead = λ rest. to rest _ (ahead_none bytes address place h rest ∙ sym (pick_true _ _ refl));
+      lead = λ rest. to rest _ (ahead_none bytes address place h rest);
       short = omega (arith, r.short);
       fewer = r.fewer;
     }

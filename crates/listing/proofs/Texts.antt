@@ -1,28 +1,32 @@
 -- The runs of a text, one after the other: the run that is read at a place is the first of those from there on.
 -- Assumes nothing.
-use borrow.Author.Tests.{eqb-true, eqb-false, not-true}
+use borrow.Author.Tests.{not-true}
 use mathlib.Core.Path.{◌≡◌, refl, sym, ap, ◌∙◌, subst}
-use mathlib.Core.Bool.{Bool, true, false, false≢true}
+use mathlib.Core.Bool.{true, false, false≢true}
 use mathlib.Core.List.{List, [], ◌∷◌}
 use Prim.Native.Nat.{ℕ, zero, suc, ◌+◌, ◌*◌, ◌≤◌, ◌<◌}
 use native.Mathlib.Nat.{not-suc-le-zero}
 use native.Mathlib.Omega.{arith}
-use lib.Dec.{eqb, ltb}
+use lib.Dec.{eqb}
 use lib.ListN.{length, get_or, take, drop, length-append, length-take, length-drop}
 use lib.Seq.{take-append_seam}
+use Rattle.std.specs.Prelude.{Option, Some, None, Result, Ok, Err, IsOk}
+use Rattle.std.specs.Result.{result_err}
+use Rattle.ground.specs.declared.refusals.Refusal.{Refusal}
 use Rattle.ground.specs.Choice.{pick}
-use Rattle.ground.proofs.Choices.{pick_true, by_pick}
+use Rattle.ground.proofs.Choices.{by_pick}
 use Rattle.records.specs.Text.{Rec}
 use Rattle.records.specs.Runs.{runs_of}
-use Rattle.reader.specs.Digits.{pair_of, bytes_in, behind}
+use Rattle.reader.specs.Digits.{pair_of, led_by, bytes_in, behind}
 use Rattle.reader.specs.Lines.{count_of, data_of, after_end, Front, Record, EndRecord, NoRecord, record_of, line_in, Found, Good, Bad, more, found, records_in}
 use Rattle.reader.specs.Answers.{too_far, bytes_of, size_of, runs_found, runs_in, onto}
-use Rattle.reader.specs.Ahead.{run_of, refusal_at, asked_of, RunReadIs}
+use Rattle.reader.specs.Ahead.{run_of, asked_of, read_run_of, handed_bytes, RunReadIs}
 use Rattle.reader.specs.Steps.{fine}
+use Rattle.reader.specs.declared.Read.{Read}
 use Rattle.reader.specs.declared.runs.Run.{Run}
 use Rattle.reader.proofs.Joins.{bytes_runs}
 use Rattle.reader.proofs.Records.{records_on}
-use Rattle.reader.proofs.Handing.{asked_start, asked_refused, asked_there, Near, run_near, fits_answer}
+use Rattle.reader.proofs.Handing.{same_run, asked_refused, asked_there, Near, run_near, read_asked, fits_answer}
 use Rattle.reader.proofs.Tallies.{fine_size}
 use Rattle.reader.proofs.Ahead.{run_handed, run_none}
 
@@ -36,33 +40,44 @@ pub record Next (text : List ℕ) (at : ℕ) (r : Run) (d : List ℕ) : Type 0 w
   pub near : r.address + r.bytes ≤ 65536
   pub right : fine (records_in (drop r.next text)) ≡ true
 
-module _ (text : List ℕ) (whole : (size_of (records_in text)).refusal ≡ 0) (at : ℕ) (d : List ℕ) (r : Run) (e : List ℕ)
-    (w : RunReadIs text at d r e) (room : 65536 ≤ length d) where
+module _ (text : List ℕ) (size : Read) (whole : size_of (records_in text) ≡ Ok size) (at : ℕ) where
   asked : asked_of text at ≡ run_of text at
-  unfolding refusal_at
-  asked = asked_there text at (by_pick (λ (n : ℕ). n ≡ 0) (eqb at 0) whole refl)
+  asked = asked_there text at size whole
 
-  -- there is room for it
-  there : r ≡ run_of text at
-  there = w.answer ∙ sym (fits_answer text at (run_of text at) (sym asked) d (omega (arith, run_near text at, room)))
+  -- with room for any run it is no refusal
+  reads_by : (f : Found) → records_in (drop at text) ≡ f → fine f ≡ true → (d : List ℕ) → 65536 ≤ length d → IsOk (read_run_of text at (length d))
+  reads_by (Good []) h n d room = rw (fits_answer text at _ (asked ∙ run_none text at h) d (omega arith))
+  reads_by (Good (q ∷ rs)) h n d room =
+      let x = run_handed text at q rs (not-true (too_far (q ∷ rs)) n) h in
+      let near = subst Near x.answer (run_near text at) in
+      rw (fits_answer text at _ (asked ∙ x.answer) d (omega (arith, near, room)))
+  reads_by Bad h n d room = absurd (false≢true n)
+
+  pub reads : fine (records_in (drop at text)) ≡ true → (d : List ℕ) → 65536 ≤ length d → (r : Result Run Refusal) (e : List ℕ) → RunReadIs text at d r e → IsOk r
+  reads n d room r e w = rw w.answer (reads_by (records_in (drop at text)) refl n d room)
+
+module _ (text : List ℕ) (size : Read) (whole : size_of (records_in text) ≡ Ok size) (at : ℕ) (d : List ℕ) (r : Run) (e : List ℕ)
+    (w : RunReadIs text at d (Ok r) e) where
+  there : run_of text at ≡ Ok r
+  there = sym (asked text size whole at) ∙ read_asked text at (length d) r (sym w.answer)
 
   none_by : (rs : List Rec) → records_in (drop at text) ≡ Good rs → too_far rs ≡ false → r.bytes ≡ 0 → runs_of rs ≡ []
   none_by [] h n z = refl
   none_by (q ∷ rs) h n z =
       let x = run_handed text at q rs n h in
-      let no : ⊥ = omega (arith, x.some, z, ap (λ (y : Run). y.bytes) (there ∙ x.answer)) in
+      let no : ⊥ = omega (arith, x.some, z, ap (λ (y : Run). y.bytes) (same_run r _ (sym there ∙ x.answer))) in
       absurd no
 
   some_by : (rs : List Rec) → records_in (drop at text) ≡ Good rs → too_far rs ≡ false → (r.bytes ≡ 0 → ⊥) → Next text at r e
   unfolding runs_in onto
-  some_by [] h n z = absurd (z (ap (λ (y : Run). y.bytes) (there ∙ run_none text at h)))
+  some_by [] h n z = absurd (z (ap (λ (y : Run). y.bytes) (same_run r _ (sym there ∙ run_none text at h))))
   some_by (q ∷ rs) h n z =
       let x = run_handed text at q rs n h in
-      let same = there ∙ x.answer in
+      let same = same_run r _ (sym there ∙ x.answer) in
       let on : r.next ≡ x.next = ap (λ (y : Run). y.next) same in
       let later : records_in (drop r.next text) ≡ Good x.later = ap (λ (k : ℕ). records_in (drop k text)) on ∙ x.rest in
       let stored : e ≡ onto x.run.bytes d
-      = w.bytes ∙ ap (λ (l : List ℕ). onto l d) (pick_true _ _ (ap (λ (y : Run). eqb y.refusal 0) (sym w.answer ∙ same)) ∙ x.bytes) in
+      = w.bytes ∙ ap (λ (q : Result Run Refusal). onto (handed_bytes q text at) d) (sym w.answer) ∙ ap (λ (l : List ℕ). onto l d) x.bytes in
       let long : r.bytes ≡ length x.run.bytes = ap (λ (y : Run). y.bytes) same in
       record {
         run = x.run;
@@ -72,7 +87,7 @@ module _ (text : List ℕ) (whole : (size_of (records_in text)).refusal ≡ 0) (
         bytes = ap (λ (l : List ℕ). take r.bytes l) stored
             ∙ ap (λ (k : ℕ). take k (onto x.run.bytes d)) long
             ∙ take-append_seam x.run.bytes (drop (length x.run.bytes) d);
-        near = subst Near (sym there) (run_near text at);
+        near = subst Near there (run_near text at);
         right = ap fine later ∙ rw x.near;
       }
 
@@ -91,37 +106,31 @@ module _ (text : List ℕ) (whole : (size_of (records_in text)).refusal ≡ 0) (
   next_run g z = by_found g (λ rs h n. some_by rs h n z)
 
 -- the first call tells the refusal of the whole text
-first_refusal_lem : (text : List ℕ) (f : Found) → records_in text ≡ f → (size_of f).refusal ≡ 0 → (run_of text 0).refusal ≡ 0
-first_refusal_lem text (Good []) e z = ap (λ (r : Run). r.refusal) (run_none text 0 e)
-first_refusal_lem text (Good (r ∷ rs)) e z =
-    ap (λ (y : Run). y.refusal) (run_handed text 0 r rs (not-true (too_far (r ∷ rs)) (fine_size (Good (r ∷ rs)) z)) e).answer
-first_refusal_lem text Bad e z = let no : ◌≡◌ {A = ℕ} 16 0 = z in let n : ⊥ = omega arith in absurd n
+first_refusal_lem : (text : List ℕ) (f : Found) (size : Read) → records_in text ≡ f → size_of f ≡ Ok size → result_err (run_of text 0) ≡ None
+first_refusal_lem text (Good []) size e z = ap result_err (run_none text 0 e)
+first_refusal_lem text (Good (r ∷ rs)) size e z =
+    ap result_err (run_handed text 0 r rs (not-true (too_far (r ∷ rs)) (fine_size (Good (r ∷ rs)) size z)) e).answer
+first_refusal_lem text Bad size e z = absurd (false≢true (fine_size Bad size z))
 
-module _ (text : List ℕ) where
-  abbrev size : ℕ
-  size = (size_of (records_in text)).refusal
+refusal_by : (text : List ℕ) (s : Result Read Refusal) → size_of (records_in text) ≡ s → result_err (asked_of text 0) ≡ result_err s
+refusal_by text (Ok size) z = ap result_err (asked_there text 0 size z) ∙ first_refusal_lem text (records_in text) size refl z
+refusal_by text (Err e) z = ap result_err (asked_refused text 0 e refl z)
 
-  size_asked : size ≡ refusal_at text 0
-  size_asked = asked_start text 0 refl (size_of (records_in text)) refl
-
-  refusal_by : (b : Bool) → eqb size 0 ≡ b → (asked_of text 0).refusal ≡ size
-  refusal_by true t =
-      let z = eqb-true size 0 t in
-      ap (λ (r : Run). r.refusal) (asked_there text 0 (sym size_asked ∙ z)) ∙ first_refusal_lem text (records_in text) refl z ∙ sym z
-  refusal_by false t = sym (ap (λ (r : Run). r.refusal) (asked_refused text 0 size size_asked (eqb-false size 0 t)))
-
-  pub asked_refusal : (asked_of text 0).refusal ≡ size
-  asked_refusal = refusal_by (eqb size 0) refl
+pub asked_refusal : (text : List ℕ) → result_err (asked_of text 0) ≡ result_err (size_of (records_in text))
+asked_refusal text = refusal_by text (size_of (records_in text)) refl
 
 -- ---- a text has at least two characters for each byte of its runs
 abbrev data_in : Found → ℕ
 data_in f = length (bytes_of (runs_found f))
 
+led_small : (o : Option ℕ) (bs : List ℕ) (n : ℕ) → 2 * length bs ≤ n → 2 * length (led_by o bs) ≤ suc (suc n)
+led_small (Some b) bs n h = omega (arith, h)
+led_small None bs n h = omega arith
+
 digits_small : (s : List ℕ) → 2 * length (bytes_in s) ≤ length s
 digits_small [] = omega arith
 digits_small (h ∷ []) = omega arith
-digits_small (h ∷ l ∷ s) =
-    by_pick (λ (bs : List ℕ). 2 * length bs ≤ length (h ∷ l ∷ s)) (ltb (pair_of h l) 256) (omega (arith, digits_small s)) (omega arith)
+digits_small (h ∷ l ∷ s) = led_small (pair_of h l) (bytes_in s) (length s) (digits_small s)
 
 abbrev Fits : List ℕ → Front → Type 0
 Fits s (Record r after) = 2 * length r.bytes + length after < length s

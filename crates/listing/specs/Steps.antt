@@ -1,6 +1,7 @@
 -- What the code hands from one step to the next; only private contracts cite it.
-use Rattle.std.specs.Prelude.{◌≡◌, ℕ, ◌+◌, ◌*◌, ◌≤◌, List, eqb, length}
-use Rattle.ground.specs.Choice.{pick}
+use Rattle.std.specs.Prelude.{◌≡◌, ℕ, ◌+◌, ◌*◌, ◌≤◌, List, length, Option, Some, None}
+use Rattle.ground.specs.declared.refusals.Refusal.{Refusal}
+use Rattle.ground.specs.Refusals.{number_of}
 use Rattle.ground.specs.Stores.{put}
 use Rattle.listing.specs.Listing.{Lines, End, Refused, printed}
 use Rattle.listing.specs.declared.Progress.{Progress}
@@ -11,8 +12,12 @@ pub record Leads (d : List ℕ) (at : ℕ) (xs e : List ℕ) (r : ℕ) (ys : Lis
   pub buffer : put d at xs ≡ put e r ys
 
 -- the lines that are left where others would follow: those, or the refusal that was met
+abbrev pub left_by : Option Refusal → Lines → Lines
+left_by None rest = rest
+left_by (Some e) rest = Refused (number_of e)
+
 abbrev pub left : Progress → Lines → Lines
-left s rest = pick (eqb s.refusal 0) rest (Refused s.refusal)
+left s rest = left_by s.refusal rest
 
 -- so many bytes were passed, with the lines that `lines` puts first; the place and the count were those
 pub record Passed (d : List ℕ) (at count : ℕ) (lines : Lines → Lines) (bytes : ℕ) (r : Progress) (e : List ℕ) : Type 0 where

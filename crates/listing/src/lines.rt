@@ -31,10 +31,8 @@ fn put_bytes(out: &mut [u8], at: usize, bytes: &[u8]) -> usize
     ensures { Wrote out.old at (spaced bytes.now) result out.new }
 {
     let mut end = at;
-    let mut i = 0;
-    while i < bytes.len() {
-        end = put_spaced(out, end, bytes[i]);
-        i += 1;
+    for &byte in bytes {
+        end = put_spaced(out, end, byte);
     }
     end
 }

@@ -12,8 +12,7 @@ fn report(rt: &(impl Files + Print), name: &str) -> io::Result<()> {
     let mut text = [0; SPACE];
     let n = inputs::read_file(rt, name, &mut text)?;
     let mut out = [0; listing::ROOM];
-    let listed = listing::list_text(&text[..n], &mut out);
-    let m = listed.length;
+    let m = listing::list_text(&text[..n], &mut out).unwrap();
     rt.print(name)?;
     rt.print(":\n")?;
     rt.write_all(&out[..m])

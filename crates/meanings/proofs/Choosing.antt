@@ -4,12 +4,13 @@
 use mathlib.Core.Path.{◌≡◌, ◌∙◌, refl, sym, ap}
 use mathlib.Core.Bool.{Bool, true, false, not, ◌&&◌, ◌||◌}
 use Prim.Native.Nat.{ℕ}
-use native.Mathlib.Omega.{arith}
 use lib.Dec.{eqb, ltb}
-use borrow.Author.Tests.{eqb-false}
+use Rattle.std.specs.Prelude.{Result, Ok, Err, IfOk}
+use Rattle.ground.specs.declared.refusals.Refusal.{Refusal}
 use Rattle.ground.specs.Choice.{pick}
+use Rattle.ground.specs.declared.refusals.Refusal.{Refusal}
 use Rattle.ground.specs.Words.{plus, minus}
-use Rattle.ground.proofs.Choices.{by_test, by_pick}
+use Rattle.ground.proofs.Choices.{by_pick}
 use Rattle.values.specs.Widths.{bits_of, extended, sign_extended_of}
 use Rattle.values.specs.declared.pages.Page.{Page}
 use Rattle.values.specs.Pages.{reaches}
@@ -26,7 +27,7 @@ use Rattle.instruction.specs.declared.Instruction.{Instruction}
 use Rattle.instruction.specs.declared.Chosen.{Chosen}
 use Rattle.instruction.specs.Names.{mode_register, mode_offset, mode_pc_relative, mode_inc_dec, mode_direct}
 use Rattle.instruction.specs.Forms.{becomes_direct}
-use Rattle.instruction.specs.Choosing.{inherent_of, immediate_of, forced_wide, leaves_direct, stays_direct, directly_of, anew_as, anew_of, address_of, long_branch, branch_of, offset_value, accumulator_index, offset_index, target_index, step_index, address_index, index_of, listed_of, registers_of, choose_of}
+use Rattle.instruction.specs.Choosing.{inherent_of, immediate_of, forced_wide, leaves_direct, stays_direct, directly_of, anew_as, anew_of, address_of, long_branch, branch_of, offset_value, accumulator_index, offset_index, target_index, step_index, address_index, index_of, listed_of, list_settled, registers_of, choose_of}
 use Rattle.meanings.specs.Means.{first, second, offset_in, offset_kind, index_kind, kind_of}
 use Rattle.meanings.proofs.Operands.{argument_kind}
 
@@ -47,42 +48,42 @@ alongside P false x y = y
 
 module _ (i : Instruction) (v : Values) (end : Origin) where
   -- a choice that is not refused says what the record says in its form
-  abbrev Means : Chosen → Type 0
-  Means c = c.refusal ≡ 0 → argument_kind i.operand c.form c.argument end ≡ kind_of c.form i.operand v end.address
+  abbrev Means : Result Chosen Refusal → Type 0
+  Means r = IfOk r (λ c. argument_kind i.operand c.form c.argument end ≡ kind_of c.form i.operand v end.address)
 
   inherent_means : Means (inherent_of i v)
   unfolding inherent_of kind_of pick
-  inherent_means = by_pick Means v.given (λ z. absurd (omega arith)) (λ _. refl)
+  inherent_means = by_pick Means v.given tt refl
 
   immediate_means : Means (immediate_of i v)
   unfolding immediate_of kind_of pick
   immediate_means =
       by_pick Means (eqb (number_size_of i.operand.operation forms.immediate) 1 && ltb 255 v.unsigned.number)
-      (λ z. absurd (omega arith)) (λ _. refl)
+      tt refl
 
   address_means : (page : Page) → Means (address_of i v page)
   unfolding address_of directly_of stays_direct leaves_direct anew_of anew_as kind_of pick
   address_means page =
       by_pick Means (eqb i.operand.mode mode_direct)
-      (by_pick Means (becomes_direct i.operand v page) (λ _. refl)
+      (by_pick Means (becomes_direct i.operand v page) refl
       (by_pick Means (eqb i.form forms.direct)
       (by_pick Means (reaches page v.unsigned.number)
-      (by_pick Means (forced_wide i v page) (λ z. absurd (omega arith)) (λ _. refl))
-      (by_pick Means i.trial (λ _. refl) (λ z. absurd (omega arith))))
-      (λ _. refl)))
-      (by_pick (λ (form : ℕ). Means (anew_as i v form)) (becomes_direct i.operand v page) (λ _. refl) (λ _. refl))
+      (by_pick Means (forced_wide i v page) tt refl)
+      (by_pick Means i.trial refl tt))
+      refl))
+      (by_pick (λ (form : ℕ). Means (Ok (anew_as i v form))) (becomes_direct i.operand v page) refl refl)
 
   branch_means : (address : ℕ) → Means (branch_of i v address)
   unfolding branch_of long_branch kind_of pick
   branch_means address =
-      by_pick Means (eqb (number_size_of i.operand.operation forms.relative) 2) (λ _. refl)
-      (by_pick Means i.widened (λ _. refl)
-      (by_pick Means (near_of (minus v.unsigned.number (plus address 2))) (λ _. refl)
-      (by_pick Means i.operand.widening (λ _. refl) (λ z. absurd (omega arith)))))
+      by_pick Means (eqb (number_size_of i.operand.operation forms.relative) 2) refl
+      (by_pick Means i.widened refl
+      (by_pick Means (near_of (minus v.unsigned.number (plus address 2))) refl
+      (by_pick Means i.operand.widening refl tt)))
 
   -- an indexed choice that is not refused says a kind
-  abbrev Says : Kind → Chosen → Type 0
-  Says kind c = c.refusal ≡ 0 → (c.form ≡ forms.indexed) × (argument_kind i.operand c.form c.argument end ≡ kind)
+  abbrev Says : Kind → Result Chosen Refusal → Type 0
+  Says kind r = IfOk r (λ c. (c.form ≡ forms.indexed) × (argument_kind i.operand c.form c.argument end ≡ kind))
 
   accumulator_says : Says (Accumulator (second i.operand) i.operand.indirect (first i.operand)) (accumulator_index i)
   unfolding accumulator_index
@@ -90,32 +91,32 @@ module _ (i : Instruction) (v : Values) (end : Origin) where
       let o = i.operand in
       by_pick (Says (Accumulator (second o) o.indirect (first o)))
       (not (eqb o.count 2) || (not_accumulator (first o) || not_indexing (second o)))
-      (λ z. absurd (omega arith)) (λ _. (refl, refl))
+      tt (refl, refl)
 
   offset_says : Says (offset_kind i.operand v end.address) (offset_index i v)
   unfolding offset_index offset_kind target_of
   offset_says =
       let o = i.operand in
-      by_pick (Says (offset_kind o v end.address)) (not (eqb o.count 1)) (λ z. absurd (omega arith))
+      by_pick (Says (offset_kind o v end.address)) (not (eqb o.count 1)) tt
       (alongside Says (eqb (first o) PC)
-      (λ _. (refl, ap (λ (n : ℕ). Counter o.indirect (plus end.address n)) (offset_reads v)))
-      (by_pick (Says (Offset (first o) o.indirect (offset_in v))) (not_indexing (first o)) (λ z. absurd (omega arith))
-      (λ _. (refl, ap (Offset (first o) o.indirect) (offset_reads v)))))
+      (refl, ap (λ (n : ℕ). Counter o.indirect (plus end.address n)) (offset_reads v))
+      (by_pick (Says (Offset (first o) o.indirect (offset_in v))) (not_indexing (first o)) tt
+      (refl, ap (Offset (first o) o.indirect) (offset_reads v))))
 
   target_says : Says (Counter i.operand.indirect v.unsigned.number) (target_index i v)
   unfolding target_index
   target_says =
       let o = i.operand in
       by_pick (Says (Counter o.indirect v.unsigned.number)) (eqb o.count 1 && eqb (first o) PC)
-      (λ _. (refl, refl)) (λ z. absurd (omega arith))
+      (refl, refl) tt
 
   step_says : Says (Step (first i.operand) i.operand.indirect i.operand.step) (step_index i)
   unfolding step_index
   step_says =
       let o = i.operand in
       let P = Says (Step (first o) o.indirect o.step) in
-      by_pick P (o.indirect && (eqb o.step 1 || eqb o.step 3)) (λ z. absurd (omega arith))
-      (by_pick P (not (eqb o.count 1) || not_indexing (first o)) (λ z. absurd (omega arith)) (λ _. (refl, refl)))
+      by_pick P (o.indirect && (eqb o.step 1 || eqb o.step 3)) tt
+      (by_pick P (not (eqb o.count 1) || not_indexing (first o)) tt (refl, refl))
 
   index_says : Says (index_kind i.operand v end.address) (index_of i v)
   unfolding index_of address_index index_kind
@@ -124,26 +125,28 @@ module _ (i : Instruction) (v : Values) (end : Origin) where
       alongside Says (eqb mode mode_register) accumulator_says
       (alongside Says (eqb mode mode_offset) offset_says
       (alongside Says (eqb mode mode_pc_relative) target_says
-      (alongside Says (eqb mode mode_inc_dec) step_says (λ _. (refl, refl)))))
+      (alongside Says (eqb mode mode_inc_dec) step_says (refl, refl))))
 
   index_means : Means (index_of i v)
   unfolding kind_of pick
-  index_means z =
-      let s = index_says z in
-      s.1 ∙ sym (ap (λ (form : ℕ). kind_of form i.operand v end.address) s.0)
+  index_means = go (index_of i v) index_says
+    where
+      go : (r : Result Chosen Refusal) → Says (index_kind i.operand v end.address) r → Means r
+      go (Ok c) s = s.1 ∙ sym (ap (λ (form : ℕ). kind_of form i.operand v end.address) s.0)
+      go (Err n) s = tt
 
   registers_means : Means (registers_of i)
   unfolding registers_of kind_of pick
-  registers_means =
-      let n = (listed_of i.operand).refusal in
-      by_test Means (eqb n 0) (λ _ _. refl) (λ q z. absurd (eqb-false n 0 q z))
+  registers_means = go (listed_of i.operand)
+    where
+      go : (l : Result ℕ Refusal) → Means (list_settled i l)
+      go (Ok byte) = refl
+      go (Err n) = tt
 
 -- every form
 pub choose_means :
     (i : Instruction) (v : Values) (page : Page) (address : ℕ) (end : Origin) →
-    (choose_of i v page address).refusal ≡ 0 →
-    argument_kind i.operand (choose_of i v page address).form (choose_of i v page address).argument end
-    ≡ kind_of (choose_of i v page address).form i.operand v end.address
+    IfOk (choose_of i v page address) (λ c. argument_kind i.operand c.form c.argument end ≡ kind_of c.form i.operand v end.address)
 unfolding choose_of
 choose_means i v page address end =
     let P = Means i v end in

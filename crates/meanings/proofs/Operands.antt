@@ -9,20 +9,21 @@ use Prim.Native.Nat.{ℕ, zero, suc, ◌+◌, ◌<◌, ◌≤◌}
 use native.Mathlib.Omega.{arith}
 use lib.Dec.{T, eqb, eqb→eq}
 use lib.ListN.{take}
+use Rattle.std.specs.Prelude.{Result, Ok, IsOk}
+use Rattle.std.specs.Result.{result_unwrap_or}
 use Rattle.ground.specs.Choice.{pick}
+use Rattle.ground.specs.declared.refusals.Refusal.{Refusal}
 use Rattle.ground.specs.Words.{plus, minus}
 use Rattle.ground.proofs.Ranges.{both_left, both_right, upto, below}
 use Rattle.values.specs.declared.pages.Page.{Page}
 use Rattle.values.specs.Pages.{reaches, meets}
 use Rattle.values.proofs.Reached.{meets_on}
-use Rattle.rows.specs.declared.Coded.TheVariants.{Code}
 use Rattle.rows.specs.Forms.{inherent, immediate, direct, indexed, extended, relative, register}
 use Rattle.rows.specs.Sheet.{table_of, page0, page10, page11}
-use Rattle.rows.specs.Lookup.{merged_of, placed, has_form_of, code_of}
+use Rattle.rows.specs.Lookup.{merged_of, coded, placed, has_form_of, code_of}
 use Rattle.rows.specs.Sizes.{number_size_of}
 use Rattle.rows.proofs.Laws.{code_has_form}
 use Rattle.postbytes.specs.declared.Index.{Index}
-use Rattle.postbytes.specs.declared.Listed.{Listed}
 use Rattle.postbytes.specs.ListsWritten.{push_of, paired_of}
 use Rattle.postbytes.specs.Writing.{written, encode_of, near_of}
 use Rattle.postbytes.specs.Meanings as index
@@ -39,8 +40,8 @@ use Rattle.instruction.specs.declared.Operand.{Operand}
 use Rattle.instruction.specs.declared.Argument.{Argument}
 use Rattle.instruction.specs.declared.Argument.TheVariants.{Nothing, Number, Target, Indexed, Relative, Registers}
 use Rattle.instruction.specs.Choosing.{is_pair, own_stack, listed_of}
-use Rattle.instruction.specs.Bytes.{number_bytes, operand_bytes}
-use Rattle.instruction.proofs.Fits.{NumberFits, ArgumentFits}
+use Rattle.instruction.specs.Bytes.{nothing, number_bytes, operand_bytes}
+use Rattle.instruction.proofs.Fits.{unwraps, NumberFits, ArgumentFits}
 use Rattle.instruction.proofs.Rows.{operation_small}
 use Rattle.meanings.specs.Means.{first, second, list_kind}
 
@@ -95,27 +96,27 @@ module _ (operand : Operand) (page : Page) (address size o p c : ℕ) (t : List 
   abbrev after : Origin
   after = shifted (origin address page) size
 
-  nothing_back : code_of o inherent ≡ Code p c → Back inherent Nothing
+  nothing_back : code_of o inherent ≡ coded p c → Back inherent Nothing
   unfolding operand_bytes number_bytes pick
   nothing_back e = rw (back.size_inherent o p c e) (back.inherent_back (merged_of o) after t)
 
-  immediate_back : code_of o immediate ≡ Code p c → (n : ℕ) → (number_size_of o immediate ≡ 1 → n < 256) → Back immediate (Number n)
+  immediate_back : code_of o immediate ≡ coded p c → (n : ℕ) → (number_size_of o immediate ≡ 1 → n < 256) → Back immediate (Number n)
   unfolding operand_bytes pick
   immediate_back e n h =
       let s = back.size_immediate o p c e in
       let w = number_written (number_size_of o immediate) n s.0 s.1 in
       rw (w.0, w.1) (back.immediate_back (merged_of o) after t (number_size_of o immediate) n s.0 s.1 h)
 
-  direct_back : code_of o direct ≡ Code p c → (n : ℕ) → reaches page n ≡ true → Back direct (Number n)
+  direct_back : code_of o direct ≡ coded p c → (n : ℕ) → reaches page n ≡ true → Back direct (Number n)
   unfolding operand_bytes number_bytes shifted pick
   direct_back e n h = rw (back.size_direct o p c e) (back.direct_back (merged_of o) after t n h)
 
-  extended_back : code_of o extended ≡ Code p c → (n : ℕ) → Back extended (Number n)
+  extended_back : code_of o extended ≡ coded p c → (n : ℕ) → Back extended (Number n)
   unfolding operand_bytes number_bytes pick
   extended_back e n = rw (back.size_extended o p c e) (back.extended_back (merged_of o) after t n)
 
   target_back :
-      code_of o relative ≡ Code p c →
+      code_of o relative ≡ coded p c →
       (number_size_of o relative ≡ 1 → size ≡ 1) →
       (target : ℕ) →
       target < 65536 →
@@ -136,11 +137,12 @@ module _ (operand : Operand) (page : Page) (address size o p c : ℕ) (t : List 
   unfolding shifted
   ends n = shift_shift (origin address page) size n
 
-  indexed_back : (i : Index) → (encode_of i).refusal ≡ 0 → Back indexed (Indexed i)
+  indexed_back : (i : Index) → IsOk (encode_of i) → Back indexed (Indexed i)
   unfolding operand_bytes
   indexed_back i z =
-      back.index_back (merged_of o) after t i (number_size_of o indexed) z
-      ∙ ap (λ (next : Origin). reading (encode_of i).length (resolved (index.meaning_of i) next)) (ends (encode_of i).length)
+      let e = result_unwrap_or (encode_of i) nothing in
+      back.index_back (merged_of o) after t i (number_size_of o indexed) e (unwraps (encode_of i) nothing z)
+      ∙ ap (λ (next : Origin). reading e.length (resolved (index.meaning_of i) next)) (ends e.length)
 
   counter_back : (target : ℕ) (ind : Bool) → target < 65536 → Back indexed (Relative target ind)
   unfolding operand_bytes shifted
@@ -148,12 +150,12 @@ module _ (operand : Operand) (page : Page) (address size o p c : ℕ) (t : List 
       back.counter_back (merged_of o) after t target (number_size_of o indexed) ind h (shifted_small (origin address page) size)
 
   -- a pair, or the list of a push
-  abbrev listed : Bool → Listed
+  abbrev listed : Bool → Result ℕ Refusal
   listed pair = pick pair (paired_of operand.registers operand.count) (push_of (own_stack o) operand.registers operand.count)
 
-  list_back : code_of o register ≡ Code p c → operand.operation ≡ o → (listed_of operand).refusal ≡ 0 → Back register (Registers (listed_of operand).byte)
+  list_back : (byte : ℕ) → code_of o register ≡ coded p c → operand.operation ≡ o → listed_of operand ≡ Ok byte → Back register (Registers byte)
   unfolding operand_bytes listed_of list_kind is_pair pick
-  list_back e same =
+  list_back byte e same =
       let row = list_row o (code_has_form o register p c e) in
       rw (row.plain, same) (go row (is_pair o) refl)
     where
@@ -161,19 +163,19 @@ module _ (operand : Operand) (page : Page) (address size o p c : ℕ) (t : List 
           ListRow o →
           (b : Bool) →
           is_pair o ≡ b →
-          (listed b).refusal ≡ 0 →
-          operand_of o register (number_size_of o register) (rest_of ((listed b).byte ∷ t)) after
+          listed b ≡ Ok byte →
+          operand_of o register (number_size_of o register) (rest_of (byte ∷ t)) after
           ≡ reading 1 (pick b (Pair (first operand) (second operand)) (Push (set_of (take operand.count operand.registers))))
-      go row true q z = back.pair_list_back o after t operand.registers operand.count (number_size_of o register) q z
+      go row true q z = back.pair_list_back o after t operand.registers operand.count (number_size_of o register) byte q z
       go row false q z =
-          back.push_list_back o after t (own_stack o) operand.registers operand.count (number_size_of o register) q (row.own q) z
+          back.push_list_back o after t (own_stack o) operand.registers operand.count (number_size_of o register) byte q (row.own q) z
 
   -- ---- all of them
   -- built under a page that the reader's meets
-  module _ (own : Page) (met : meets page own ≡ true) (form : ℕ) (e : code_of o form ≡ Code p c) where
+  module _ (own : Page) (met : meets page own ≡ true) (form : ℕ) (e : code_of o form ≡ coded p c) where
     -- what holds of a form by its name holds of it
-    named : (f : ℕ) (a : Argument) → form ≡ f → (code_of o f ≡ Code p c → Back f a) → Back form a
-    named f a d b = subst (λ (g : ℕ). Back g a) (sym d) (b (subst (λ (g : ℕ). code_of o g ≡ Code p c) d e))
+    named : (f : ℕ) (a : Argument) → form ≡ f → (code_of o f ≡ coded p c → Back f a) → Back form a
+    named f a d b = subst (λ (g : ℕ). Back g a) (sym d) (b (subst (λ (g : ℕ). code_of o g ≡ coded p c) d e))
 
     number_back : (n : ℕ) → NumberFits own o form n → Back form (Number n)
     number_back n h =
@@ -199,4 +201,4 @@ module _ (operand : Operand) (page : Page) (address size o p c : ℕ) (t : List 
     operand_back same one (Relative x ind) h = named indexed (Relative x ind) h.formed (λ _. counter_back x ind h.word)
     operand_back same one (Registers b) h =
         named register (Registers b) h.formed
-        (λ k. subst (λ (m : ℕ). Back register (Registers m)) (sym h.byte) (list_back k (same h.formed) h.accepted))
+        (λ k. list_back b k (same h.formed) h.byte)

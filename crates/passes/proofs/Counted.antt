@@ -6,22 +6,21 @@ use mathlib.Core.Bool.{Bool, true, false}
 use mathlib.Core.List.{List}
 use Prim.Native.Nat.{ℕ, zero, suc, ◌+◌, ◌≤◌, ◌<◌}
 use native.Mathlib.Omega.{arith}
-use lib.Dec.{eqb}
 use lib.ListN.{replicate}
-use borrow.Author.Tests.{ne_eqb}
 use Rattle.ground.specs.Choice.{pick}
-use Rattle.ground.specs.Refusals.{not_settled, over_limit}
-use Rattle.ground.proofs.Choices.{pick_false, by_pick}
+use Rattle.std.proofs.Common.{Err}
+use Rattle.ground.specs.declared.refusals.Refusal.{Refusal}
+use Rattle.ground.specs.declared.refusals.Refusal.TheVariants.{NotSettled, OverLimit}
+use Rattle.ground.proofs.Choices.{by_pick}
 use Rattle.passes.specs.declared.walk.State.{State}
-use Rattle.passes.specs.declared.Ended.{Ended}
 use Rattle.passes.specs.Labels.{begun_table, labels_fit}
 use Rattle.passes.specs.Walks.{Source}
-use Rattle.passes.specs.Passes.{pass_of, ended, answer_of, outcome, Outcome, after_of, settle_of, most_passes, passed_of, too_many, ended_of, settled_refusal, settled_of, labels_after}
+use Rattle.passes.specs.Passes.{pass_of, ended, answer_of, outcome, Outcome, after_of, settle_of, most_passes, passed_of, too_many, ended_of, settled_end, settled_of, labels_after}
 use Rattle.passes.specs.Counts.{pass_at, count_of}
 
 pub answer_passes : (made : ℕ) (s : State) → (answer_of made s).passes ≡ made
 unfolding answer_of
-answer_passes made s = by_pick (λ (x : Ended). x.passes ≡ made) (eqb s.refusal 0) refl refl
+answer_passes made s = refl
 
 after_count :
     (b : Bool) (o p : Outcome) (made k : ℕ) → o.answer.passes ≡ (made + 1) + k → p.answer.passes ≡ made + 1 →
@@ -52,14 +51,14 @@ module _ (src : Source) where
   -- every pass of n changed something: 13, with n passes
   pub never_settled :
       (n made : ℕ) (ls zs : List ℕ) → ((k : ℕ) → k < n → (pass_at src k ls zs).state.changed ≡ true) →
-      (settle_of src n made ls zs).answer ≡ ended not_settled (made + n) 0 0
+      (settle_of src n made ls zs).answer ≡ ended (made + n) (Err NotSettled) 0
   unfolding settle_of after_of pass_at pick
-  never_settled zero made ls zs h = ap (λ (m : ℕ). ended not_settled m 0 0) (omega arith)
+  never_settled zero made ls zs h = ap (λ (m : ℕ). ended m (Err NotSettled) 0) (omega arith)
   never_settled (suc n) made ls zs h =
       let w = pass_of src ls zs in
       rw (h zero (omega arith))
       (never_settled n (made + 1) w.labels w.sizes (λ k b. h (suc k) (omega arith))
-      ∙ ap (λ (m : ℕ). ended not_settled m 0 0) (omega arith))
+      ∙ ap (λ (m : ℕ). ended m (Err NotSettled) 0) (omega arith))
 
   -- pass number k + 1 is the first that changed nothing: its outcome, with k + 1 passes
   pub first_settled :
@@ -87,8 +86,8 @@ module _ (src : Source) (ls : List ℕ) where
   count_is e = rw e (counted src most_passes 0 (begun_table src.list ls) (replicate 1024 0) ∙ omega arith)
 
   -- "any other 17" has made none
-  pub early : too_many src.list src.nodes ≡ true → settled_of src ls ≡ record { refusal = over_limit; passes = 0; end = 0 }
-  unfolding settled_of settled_refusal ended_of labels_fit pick
+  pub early : too_many src.list src.nodes ≡ true → settled_of src ls ≡ record { passes = 0; end = Err OverLimit }
+  unfolding settled_of settled_end ended_of labels_fit pick
   early e = rw e
 
   pub count_most : (settled_of src ls).passes ≤ most_passes
@@ -102,11 +101,11 @@ module _ (src : Source) (ls : List ℕ) where
   pub not_settled_lem :
       too_many src.list src.nodes ≡ false →
       ((k : ℕ) → k < most_passes → (pass_at src k (begun_table src.list ls) (replicate 1024 0)).state.changed ≡ true) →
-      settled_of src ls ≡ record { refusal = not_settled; passes = most_passes; end = 0 }
-  unfolding settled_of settled_refusal ended_of passed_of labels_fit pick
+      settled_of src ls ≡ record { passes = most_passes; end = Err NotSettled }
+  unfolding settled_of settled_end ended_of passed_of labels_fit pick
   not_settled_lem e h = rw (e, never_settled src most_passes 0 (begun_table src.list ls) (replicate 1024 0) h)
 
   -- a refusal leaves the lent label table
-  pub refused_leaves : ((settled_of src ls).refusal ≡ 0 → ⊥) → labels_after src ls ≡ ls
-  unfolding settled_of labels_after
-  refused_leaves n = pick_false _ _ (ne_eqb (settled_refusal src ls) 0 n)
+  pub refused_leaves : (why : Refusal) → (settled_of src ls).end ≡ Err why → labels_after src ls ≡ ls
+  unfolding settled_of labels_after pick
+  refused_leaves why e = rw e

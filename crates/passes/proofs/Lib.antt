@@ -1,6 +1,5 @@
 pub mod Bearers
 pub mod Tables
-pub mod Fitting
 pub mod Turns
 pub mod Rounds
 pub mod Still

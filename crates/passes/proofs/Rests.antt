@@ -8,7 +8,9 @@ use Prim.Native.Nat.{ℕ, zero, suc, ◌+◌, ◌<◌}
 use native.Mathlib.Omega.{arith}
 use lib.ListN.{replicate}
 use Rattle.ground.specs.Choice.{pick}
-use Rattle.ground.specs.Refusals.{not_settled}
+use Rattle.std.proofs.Common.{Err, is_ok}
+use Rattle.ground.specs.declared.refusals.Refusal.{Refusal}
+use Rattle.ground.specs.declared.refusals.Refusal.TheVariants.{NotSettled, OverLimit}
 use Rattle.passes.specs.declared.walk.State.{State}
 use Rattle.passes.specs.declared.Ended.{Ended}
 use Rattle.passes.specs.Labels.{begun_table}
@@ -23,7 +25,7 @@ pub record Rests (src : Source) (o : Outcome) : Type 0 where
   pub answers : o.answer ≡ answer_of o.answer.passes (pass_of src o.table o.sizes).state
 
 abbrev pub Ends : Source → ℕ → Outcome → Type 0
-Ends src made o = (o.answer ≡ ended not_settled made 0 0) ⊎ Rests src o
+Ends src made o = (o.answer ≡ ended made (Err NotSettled) 0) ⊎ Rests src o
 
 module _ (src : Source) where
   pass_rests :
@@ -49,7 +51,7 @@ module _ (src : Source) where
 
   pub settle_rests : (n made : ℕ) (ls zs : List ℕ) → Ends src (made + n) (settle_of src n made ls zs)
   unfolding settle_of
-  settle_rests zero made ls zs = inl (ap (λ (m : ℕ). ended not_settled m 0 0) (omega arith))
+  settle_rests zero made ls zs = inl (ap (λ (m : ℕ). ended m (Err NotSettled) 0) (omega arith))
   settle_rests (suc n) made ls zs =
       let w = pass_of src ls zs in
       after_rests w.state.changed n made ls zs refl (settle_rests n (made + 1) w.labels w.sizes)
@@ -57,21 +59,21 @@ module _ (src : Source) where
 -- ---- of `settle_in`: where there is no refusal, or a statement before the refused one, the tables are those of a settled pass
 module _ (src : Source) (ls : List ℕ) where
   abbrev Told : Ended → Type 0
-  Told e = (e.refusal ≡ 0) ⊎ (0 < e.fine)
+  Told e = (is_ok e.end ≡ true) ⊎ (0 < e.fine)
 
-  untold : (why made : ℕ) → (why ≡ 0 → ⊥) → Told (ended why made 0 0) → ⊥
-  untold why made n t = ⊎_elim n (λ (h : 0 < 0). omega arith) t
+  untold : (why : Refusal) (made : ℕ) → Told (ended made (Err why) 0) → ⊥
+  untold why made t = ⊎_elim (λ (h : false ≡ true). cc) (λ (h : 0 < 0). omega arith) t
 
   passed_rests : Told (passed_of src ls).answer → Rests src (passed_of src ls)
   unfolding passed_of
   passed_rests t =
       ⊎_elim
-      (λ e. absurd (untold not_settled (0 + most_passes) (λ z. omega arith) (rw e at t)))
+      (λ e. absurd (untold NotSettled (0 + most_passes) (rw e at t)))
       (λ r. r)
       (settle_rests src most_passes 0 (begun_table src.list ls) (replicate 1024 0))
 
   pub ended_rests :
       (many : Bool) → too_many src.list src.nodes ≡ many → Told (ended_of src ls) → (many ≡ false) × Rests src (passed_of src ls)
   unfolding ended_of pick
-  ended_rests true e t = absurd (untold 17 0 (λ z. omega arith) (rw e at t))
+  ended_rests true e t = absurd (untold OverLimit 0 (rw e at t))
   ended_rests false e t = (refl, passed_rests (rw e at t))

@@ -12,14 +12,16 @@ use lib.ListN.{get_or, set}
 use lib.Seq.{set-get_or}
 use borrow.Author.Tests.{eqb-true, not-false}
 use Rattle.ground.specs.Choice.{pick}
-use Rattle.ground.proofs.Choices.{by_pick}
 use Rattle.ground.proofs.Tests.{neither_left, neither_right}
+use Rattle.std.proofs.Common.{Option, Some, None, Result, Ok, Err}
+use Rattle.ground.specs.declared.refusals.Refusal.{Refusal}
 use Rattle.segments.specs.Segments.{added_to}
 use Rattle.statements.specs.declared.Effect.{Effect}
 use Rattle.passes.specs.declared.walk.State.{State}
 use Rattle.statements.specs.Listing.{rows_of}
-use Rattle.passes.specs.Walks.{Source, Walk, walk, start_of, here_of, touched, marks_of, cell_of, marked_labels, marked_state, effect_in, sized_state, judged, origin_state, advanced_state, mark_of, resize_of, advance_of, done_of, step_of, walk_of, walk_to}
+use Rattle.passes.specs.Walks.{Source, Walk, walk, start_of, here_of, touched, marks_of, cell_of, marked_labels, marked_state, effect_in, sized_state, judged, origin_from, advanced_by, advanced_state, mark_of, resize_of, advance_of, done_of, step_of, walk_of, walk_to}
 use Rattle.passes.specs.Passes.{pass_of}
+use Rattle.passes.proofs.Turns.{walk_more}
 
 same_cell : (l : List ℕ) (i v : ℕ) → not (eqb (get_or l i 0) v) ≡ false → set l i v ≡ l
 same_cell l i v e =
@@ -32,11 +34,18 @@ untouched other s e =
     (λ (b : Bool). record { at = s.at; count = s.count; page = s.page; refusal = s.refusal; fine = s.fine; changed = b })
     (e ∙ sym (neither_left s.changed other e))
 
+origin_changed : (r : Result ℕ Refusal) (i to : ℕ) (s : State) → (origin_from r i to s).changed ≡ s.changed
+unfolding origin_from judged
+origin_changed (Ok count) i to s = refl
+origin_changed (Err why) i to s = refl
+
 advanced_changed : (ts : List ℕ) (i : ℕ) (e : Effect) (s : State) → (advanced_state ts i e s).changed ≡ s.changed
-unfolding advanced_state origin_state judged
-advanced_changed ts i e s =
-    let same : State → Type 0 = λ x. x.changed ≡ s.changed in
-    by_pick same e.moves (by_pick same (eqb (added_to ts s.count e.to).refusal 0) refl refl) refl
+unfolding advanced_state judged
+advanced_changed ts i e s = go e.to
+  where
+    go : (to : Option ℕ) → (advanced_by to ts i e s).changed ≡ s.changed
+    go None = refl
+    go (Some to) = origin_changed (added_to ts s.count to) i to s
 
 -- v is w, but for its state and its segments
 pub record Still (v w : Walk) : Type 0 where
@@ -121,17 +130,9 @@ module _ (src : Source) where
   way_still (suc k) (suc n) i w b h = way_still k n (i + 1) (step_of src i w) (le_of_suc-le-suc b) h
 
   -- one statement more
-  walk_next : (n i : ℕ) (w : Walk) → walk_of src (suc n) i w ≡ step_of src (i + n) (walk_of src n i w)
-  unfolding walk_of
-  walk_next zero i w = ap (λ (j : ℕ). step_of src j w) (omega arith)
-  walk_next (suc n) i w =
-      walk_next n (i + 1) (step_of src i w) ∙ ap (λ (j : ℕ). step_of src j (walk_of src n (i + 1) (step_of src i w))) (omega arith)
-
   pub pass_next : (ls zs : List ℕ) (i : ℕ) → walk_to src ls zs (i + 1) ≡ step_of src i (walk_to src ls zs i)
   unfolding walk_to
-  pass_next ls zs i =
-      ap (λ (n : ℕ). walk_of src n 0 (start_of ls zs)) (omega arith)
-      ∙ walk_next i 0 (start_of ls zs) ∙ ap (λ (j : ℕ). step_of src j (walk_of src i 0 (start_of ls zs))) (omega arith)
+  pass_next ls zs i = walk_more src i (start_of ls zs)
 
   -- ---- a settled pass over the tables ls and zs
   module _ (ls zs : List ℕ) (h : (pass_of src ls zs).state.changed ≡ false) where

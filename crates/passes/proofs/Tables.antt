@@ -5,7 +5,7 @@ use mathlib.Core.Bool.{Bool, true, false}
 use mathlib.Core.List.{List, [], ◌∷◌, ◌++◌, append-nil}
 use Prim.Native.Nat.{ℕ, zero, suc, ◌+◌, ◌-◌, ◌*◌, ◌≤◌, ◌<◌, min}
 use native.Mathlib.Nat.{le_of_suc-le-suc}
-use native.Mathlib.Numerals.{add-one, add-three}
+use native.Mathlib.Numerals.{add-one}
 use native.Mathlib.Omega.{arith}
 use lib.Dec.{leb, ltb}
 use lib.ListN.{length, take, drop, get_or, set, length-drop, take-append-drop, drop_of_length-le}
@@ -79,9 +79,11 @@ lay_step (f ∷ fs) (x ∷ ls) (suc at) h b =
     ap (λ (l : List ℕ). x ∷ l) (lay_step fs ls at (le_of_suc-le-suc h) (le_of_suc-le-suc b))
 
 pub lay_more :
-    (fs ls : List ℕ) (at : ℕ) → at + 3 ≤ length fs → at + 3 ≤ length ls →
-    to_lay fs (set (set ls at (get_or fs at 0)) (at + 1) (get_or fs (at + 1) 0)) (at + 3) ≡ to_lay fs ls at
-lay_more fs ls at h b = rw (add-one at, add-three at) (lay_step fs ls at (omega arith) (omega arith))
+    (fs ls : List ℕ) (k : ℕ) → (k + 1) * 3 ≤ length fs → (k + 1) * 3 ≤ length ls →
+    to_lay fs (set (set ls (k * 3) (get_or fs (k * 3) 0)) (k * 3 + 1) (get_or fs (k * 3 + 1) 0)) ((k + 1) * 3) ≡ to_lay fs ls (k * 3)
+lay_more fs ls k h b =
+    let three : (k + 1) * 3 ≡ suc (suc (suc (k * 3))) = omega arith in
+    rw (three, add-one (k * 3)) (lay_step fs ls (k * 3) (omega arith) (omega arith))
 
 short_found : (fs ls : List ℕ) → length fs < 3 → laid_over fs ls ≡ ls
 unfolding laid_over

@@ -1,60 +1,26 @@
 -- The stages of a step, each from what its calls ensure, and one turn of a walk.
 -- Assumes nothing.
 use mathlib.Core.Path.{◌≡◌, refl, ap, ◌∙◌}
-use mathlib.Core.Bool.{Bool, true, false, ◌&&◌, not}
 use mathlib.Core.List.{List}
-use Prim.Native.Nat.{ℕ, zero, suc, ◌+◌, ◌-◌, ◌*◌, ◌≤◌, ◌<◌}
-use native.Mathlib.Numerals.{sub-one}
+use Prim.Native.Nat.{ℕ, zero, suc, ◌+◌, ◌≤◌}
 use native.Mathlib.Omega.{arith}
-use lib.Dec.{eqb}
-use lib.ListN.{get_or, set}
-use borrow.Author.Tests.{ne_eqb}
-use Rattle.ground.specs.Choice.{pick}
+use lib.ListN.{set}
 use Rattle.ground.proofs.Choices.{by_pick}
-use Rattle.segments.specs.declared.Added.{Added}
-use Rattle.segments.specs.Segments.{added_to}
 use Rattle.statements.specs.declared.Effect.{Effect}
-use Rattle.statements.specs.Listing.{none, label_at}
+use Rattle.statements.proofs.Sizes.{counted_ends}
 use Rattle.passes.specs.declared.walk.State.{State}
-use Rattle.passes.specs.Labels.{ill_of}
-use Rattle.passes.specs.Walks.{Source, Walk, walk, here_of, touched, marks_of, marked_labels, marked_state, effect_in, sized_state, judged, moved, origin_state, advanced_state, advanced_starts, mark_of, resize_of, advance_of, done_of, step_of, walk_of}
-
--- ---- the label
-module _ (list ls ls' : List ℕ) (i label : ℕ) (ill : Bool) (s r : State) (p : label ≡ label_at list i) (q : ill ≡ ill_of list i) where
-  pub mark_set :
-      (not (eqb label none) && not ill) ≡ true →
-      r ≡ touched (not (eqb (get_or ls (label * 3 + 1) 0) (here_of s))) s → ls' ≡ set ls (label * 3 + 1) (here_of s) →
-      (r ≡ marked_state list i s ls) × (ls' ≡ marked_labels list i s ls)
-  unfolding marked_state marked_labels marks_of pick
-  mark_set m e f = (rw (← p, ← q, m) e, rw (← p, ← q, m) f)
-
-  pub mark_left :
-      (not (eqb label none) && not ill) ≡ false → r ≡ s → ls' ≡ ls → (r ≡ marked_state list i s ls) × (ls' ≡ marked_labels list i s ls)
-  unfolding marked_state marked_labels marks_of pick
-  mark_left m e f = (rw (← p, ← q, m) e, rw (← p, ← q, m) f)
+use Rattle.passes.specs.Walks.{Source, Walk, walk, marks_of, marked_labels, marked_state, effect_in, sized_state, advanced_state, advanced_starts, mark_of, resize_of, advance_of, done_of, step_of, walk_of}
 
 -- ---- the size
--- marking and sizing leave the running address
-pub same_address :
-    (list ls zs : List ℕ) (i : ℕ) (e : Effect) (s marked sized : State) → marked ≡ marked_state list i s ls → sized ≡ sized_state zs i e marked →
-    sized.at ≡ s.at
-unfolding marked_state sized_state
-same_address list ls zs i e s marked sized p q =
-    ap (λ (x : State). x.at) (q ∙ ap (sized_state zs i e) p) ∙ by_pick (λ (x : State). x.at ≡ s.at) (marks_of list i) refl refl
-
--- ---- an ORG
-module _ (ts : List ℕ) (i to : ℕ) (s r : State) (a : Added) (p : a ≡ added_to ts s.count to) where
-  pub origin_refused : (a.refusal ≡ 0 → ⊥) → r ≡ judged i a.refusal s → r ≡ origin_state ts i to s
-  unfolding origin_state pick
-  origin_refused n e = rw (← p, ne_eqb _ _ n) e
-
-  pub origin_done : (g : State) → a.refusal ≡ 0 → g ≡ moved to a.count s → r ≡ judged i 0 g → r ≡ origin_state ts i to s
-  unfolding origin_state pick
-  origin_done g z m e = rw (← p, z, ← m) e
-
-pub origin_bound : (ts : List ℕ) (i to : ℕ) (s : State) → to ≤ 65535 → s.at ≤ 65536 → (origin_state ts i to s).at ≤ 65536
-unfolding origin_state judged
-origin_bound ts i to s h b = by_pick (λ (x : State). x.at ≤ 65536) (eqb (added_to ts s.count to).refusal 0) (omega arith) b
+-- marking and sizing leave the running address, so what the statement counts ends in the memory
+pub sized_fits :
+    (src : Source) (ls ls' zs : List ℕ) (i : ℕ) (e : Effect) (s marked sized : State) →
+    marked ≡ marked_state src.list i s ls → sized ≡ sized_state zs i e marked → e ≡ effect_in src ls' i s → s.at ≤ 65536 →
+    sized.at + e.size ≤ 65536
+unfolding marked_state sized_state effect_in
+sized_fits src ls ls' zs i e s marked sized p q f b =
+    let at = ap (λ (x : State). x.at) (q ∙ ap (sized_state zs i e) p) ∙ by_pick (λ (x : State). x.at ≡ s.at) (marks_of src.list i) refl refl in
+    rw (at, f) (counted_ends _ _ b)
 
 -- ---- the parts of a step make the step
 pub step_joins :
@@ -69,12 +35,16 @@ step_joins src ls zs ts ls' zs' ts' i s marked sized r e p₁ p₂ p₃ p₄ p�
 
 -- ---- the walk
 module _ (src : Source) where
-  pub walk_more : (left i : ℕ) (v w : Walk) → 0 < left → v ≡ step_of src i w → walk_of src (left - 1) (i + 1) v ≡ walk_of src left i w
+  -- one statement more
+  walk_next : (n i : ℕ) (w : Walk) → walk_of src (suc n) i w ≡ step_of src (i + n) (walk_of src n i w)
   unfolding walk_of
-  walk_more zero i v w h e = absurd (omega arith)
-  walk_more (suc left) i v w h e = rw (sub-one, e)
+  walk_next zero i w = ap (λ (j : ℕ). step_of src j w) (omega arith)
+  walk_next (suc n) i w =
+      walk_next n (i + 1) (step_of src i w) ∙ ap (λ (j : ℕ). step_of src j (walk_of src n (i + 1) (step_of src i w))) (omega arith)
 
-  pub walk_end : (left i : ℕ) (w : Walk) → left ≤ 0 → walk_of src left i w ≡ w
+  pub walk_more : (n : ℕ) (w : Walk) → walk_of src (n + 1) 0 w ≡ step_of src n (walk_of src n 0 w)
+  walk_more n w = ap (λ (m : ℕ). walk_of src m 0 w) (omega arith) ∙ walk_next n 0 w ∙ ap (λ (j : ℕ). step_of src j (walk_of src n 0 w)) (omega arith)
+
+  pub walk_none : (w : Walk) → walk_of src 0 0 w ≡ w
   unfolding walk_of
-  walk_end zero i w h = refl
-  walk_end (suc left) i w h = absurd (omega arith)
+  walk_none w = refl

@@ -1,5 +1,6 @@
 -- Whose each label is, and the label table before the first pass and after the last (01, "Labels, expressions, segments", "Passes").
-use Rattle.std.specs.Prelude.{ℕ, zero, suc, ◌+◌, ◌*◌, Bool, true, ◌&&◌, ◌||◌, not, List, [], ◌∷◌, ltb, leb, eqb}
+use Rattle.std.specs.Prelude.{ℕ, zero, suc, ◌+◌, ◌*◌, Bool, ◌&&◌, ◌||◌, not, List, [], ◌∷◌, ltb, leb, eqb}
+use Rattle.std.specs.List.{list_all, range_with_len}
 use Rattle.ground.specs.Choice.{pick}
 use Rattle.expressions.specs.Finding.{label_row}
 use Rattle.statements.specs.Listing.{none, rows_of, label_at}
@@ -50,5 +51,4 @@ label_fits list cells i = eqb (label_at list i) none || leb (label_at list i * 3
 
 -- so it is with each of the first n statements
 unfoldable pub labels_fit : List ℕ → ℕ → ℕ → Bool
-labels_fit list cells zero = true
-labels_fit list cells (suc n) = label_fits list cells n && labels_fit list cells n
+labels_fit list cells n = list_all (label_fits list cells) (range_with_len 0 n)

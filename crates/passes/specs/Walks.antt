@@ -1,6 +1,8 @@
 -- One walk over the statements (01, "Passes").
-use Rattle.std.specs.Prelude.{ℕ, zero, suc, ◌+◌, ◌*◌, ◌%◌, Bool, false, ◌&&◌, ◌||◌, not, List, get_or, set, replicate, eqb}
+use Rattle.std.specs.Prelude.{ℕ, zero, suc, ◌+◌, ◌*◌, ◌%◌, Bool, false, ◌&&◌, ◌||◌, not, List, get_or, set, replicate, eqb, Option, Some, None, Result, Ok, Err, is_none}
+use Rattle.std.specs.Option.{option_or}
 use Rattle.ground.specs.Choice.{pick}
+use Rattle.ground.specs.declared.refusals.Refusal.{Refusal}
 use Rattle.segments.specs.Segments.{added_to, table_after}
 use Rattle.values.specs.declared.pages.Page.TheVariants.{Known}
 use Rattle.statements.specs.declared.Effect.{Effect}
@@ -31,7 +33,7 @@ walk s ls zs ts = record { state = s; labels = ls; sizes = zs; starts = ts }
 
 -- "A pass walks from 0 with the page clean", which is page 0; no segment but 0 is counted, no statement is refused or passed yet, and nothing has changed
 abbrev pub begun : State
-begun = record { at = 0; count = 0; page = Known 0; refusal = 0; fine = 0; changed = false }
+begun = record { at = 0; count = 0; page = Known 0; refusal = None; fine = 0; changed = false }
 
 -- the location of a statement: "Running to 65536 is allowed; a label there is 0"
 abbrev pub here_of : State → ℕ
@@ -74,18 +76,14 @@ unfoldable pub sized_state : List ℕ → ℕ → Effect → State → State
 sized_state zs i e s = touched (not (eqb (get_or zs i 0) e.size)) s
 
 -- ---- the running address
--- the first of two refusals, 0 for none
-unfoldable pub first_refusal : ℕ → ℕ → ℕ
-first_refusal a b = pick (eqb a 0) b a
-
--- statement i with its refusal, 0 for none: a pass answers "its first refusal"; `fine` is how many statements stand before that one
-unfoldable pub judged : ℕ → ℕ → State → State
+-- statement i with its refusal, if it has one: a pass answers "its first refusal"; `fine` is how many statements stand before that one
+unfoldable pub judged : ℕ → Option Refusal → State → State
 judged i why s = record {
   at = s.at;
   count = s.count;
   page = s.page;
-  refusal = first_refusal s.refusal why;
-  fine = pick (eqb (first_refusal s.refusal why) 0) (i + 1) s.fine;
+  refusal = option_or s.refusal why;
+  fine = pick (is_none (option_or s.refusal why)) (i + 1) s.fine;
   changed = s.changed;
 }
 
@@ -112,16 +110,27 @@ moved to count s = record {
 }
 
 -- "ORG adds its own [segment] and moves"; 12 and 17 are its refusals, and "a refused ORG moves nothing"
-unfoldable pub origin_state : List ℕ → ℕ → ℕ → State → State
-origin_state ts i to s =
-    judged i (added_to ts s.count to).refusal
-    (pick (eqb (added_to ts s.count to).refusal 0) (moved to (added_to ts s.count to).count s) s)
+unfoldable pub origin_from : Result ℕ Refusal → ℕ → ℕ → State → State
+origin_from (Ok count) i to s = judged i None (moved to count s)
+origin_from (Err why) i to s = judged i (Some why) s
+
+abbrev pub origin_state : List ℕ → ℕ → ℕ → State → State
+origin_state ts i to s = origin_from (added_to ts s.count to) i to s
+
+-- what a statement does: it moves, or is added
+abbrev pub advanced_by : Option ℕ → List ℕ → ℕ → Effect → State → State
+advanced_by (Some to) ts i e s = origin_state ts i to s
+advanced_by None ts i e s = judged i e.refusal (grown e s)
 
 unfoldable pub advanced_state : List ℕ → ℕ → Effect → State → State
-advanced_state ts i e s = pick e.moves (origin_state ts i e.to s) (judged i e.refusal (grown e s))
+advanced_state ts i e s = advanced_by e.to ts i e s
+
+abbrev pub starts_by : Option ℕ → List ℕ → State → List ℕ
+starts_by (Some to) ts s = table_after ts s.count to
+starts_by None ts s = ts
 
 unfoldable pub advanced_starts : List ℕ → Effect → State → List ℕ
-advanced_starts ts e s = pick e.moves (table_after ts s.count e.to) ts
+advanced_starts ts e s = starts_by e.to ts s
 
 -- ---- one statement: its label is marked at once, so that its own operand sees it; then its effect is taken, sized and counted
 unfoldable pub mark_of : List ℕ → ℕ → Walk → Walk

@@ -4,14 +4,14 @@
 pub mod labels;
 mod walk;
 
-ghost use Rattle.std.specs.Prelude.{◌≡◌, ◌≤◌, length};
+ghost use Rattle.std.specs.Prelude.{◌≡◌, ◌≤◌, length, Err};
 ghost use Rattle.statements.specs.Listing.{rows_of};
 ghost use Rattle.passes.specs.Walks.{source};
 ghost use Rattle.passes.specs.Passes.{pass_of, ended, answer_of, most_passes, settle_of, overfull_in, too_many, ended_of, worked_table, worked_sizes, settled_of, labels_after};
 ghost use Rattle.passes.specs.Steps.{bearers_of};
 
 use expressions::too_many_nodes;
-use ground::refusals::{NO_ROOM, NOT_SETTLED, OVER_LIMIT};
+use ground::refusals::Refusal;
 use labels::{begin, find_bearers, labels_fit, store_labels};
 use statements::listing::{overfull, rows_of};
 use walk::{State, walk_all};
@@ -20,27 +20,25 @@ const MOST_STATEMENTS: usize = 1024;
 
 const MOST_PASSES: u8 = 64;
 
-// How the passes ended: a refusal, 0 for none; the passes made; the address after the last statement, 0 beside a refusal; and how many statements
-// stand before the refused one.
+// How the passes ended: how many were made; the address after the last statement, or a refusal; and how many statements stand before the refused one.
 #[derive(Clone, Copy)]
 pub struct Ended {
-    pub refusal: u8,
     pub passes: u8,
-    pub end: u32,
+    pub end: Result<u32, Refusal>,
     pub fine: usize,
 }
 
-// A refusal, 0 for none, the passes made, and the address after the last statement.
+// The passes made, beside a refusal too; and the address after the last statement, or the refusal.
 #[derive(Clone, Copy)]
 pub struct Settled {
-    pub refusal: u8,
     pub passes: u8,
-    pub end: u32,
+    pub end: Result<u32, Refusal>,
 }
 
 // Settles the statements. The label table gets the addresses found, and on a refusal stays as it was. A statement whose label has no row there stands
 // before the refused one, so that its 9 comes first.
-// The tables stand on the stack, 8,318 bytes in all: labels 3,072, sizes 4,096, first bearers 1,024, segment starts 126.
+// The tables stand on the stack, side by side and not in a heap (none is used), 8,318 bytes in all: labels 3,072, sizes 4,096, first bearers 1,024, segment starts 126.
+#[tactic(auto, using(crate::proofs::Rounds::accepted_passed), unfolding(crate::specs::Passes::settled_of, crate::specs::Passes::labels_after, crate::specs::Passes::settled_end, ground::specs::Choice::pick))]
 pub fn settle(list: &[u16], items: &[u16], nodes: &[u16], labels: &mut [u16]) -> Settled
     ensures answer { result ≡ settled_of (source list.now items.now nodes.now) labels.old }
     ensures table { labels.new ≡ labels_after (source list.now items.now nodes.now) labels.old }
@@ -50,21 +48,14 @@ pub fn settle(list: &[u16], items: &[u16], nodes: &[u16], labels: &mut [u16]) ->
     let ended = settle_in(list, items, nodes, labels, &mut table, &mut sizes);
     if !labels_fit(list, ended.fine, labels.len()) {
         return Settled {
-            refusal: NO_ROOM,
             passes: ended.passes,
-            end: 0,
+            end: Err(Refusal::NoRoom),
         };
     }
-    if ended.refusal != 0 {
-        return Settled {
-            refusal: ended.refusal,
-            passes: ended.passes,
-            end: 0,
-        };
+    if ended.end.is_ok() {
+        store_labels(&table, labels);
     }
-    store_labels(&table, labels);
     Settled {
-        refusal: 0,
         passes: ended.passes,
         end: ended.end,
     }
@@ -72,6 +63,7 @@ pub fn settle(list: &[u16], items: &[u16], nodes: &[u16], labels: &mut [u16]) ->
 
 // Settles the statements in tables of the caller's. They keep the labels and the sizes of the last pass, also beside its refusal, so that a settled
 // pass can be walked again; 17 before the first pass leaves them as they were.
+#[tactic(auto, using(crate::proofs::Rounds::few, crate::proofs::Tables::begin_fills), unfolding(crate::specs::Passes::ended_of, crate::specs::Passes::worked_table, crate::specs::Passes::worked_sizes, crate::specs::Passes::passed_of, ground::specs::Choice::pick))]
 pub fn settle_in(
     list: &[u16],
     items: &[u16],
@@ -85,7 +77,7 @@ pub fn settle_in(
     ensures sizes { sizes.new ≡ worked_sizes (source list.now items.now nodes.now) labels.now sizes.old }
 {
     if too_many(list, nodes) {
-        return refused(OVER_LIMIT, 0);
+        return refused(0, Refusal::OverLimit);
     }
     let none = rows_of(list) as u16;
     let mut firsts = [none; 512];
@@ -96,6 +88,7 @@ pub fn settle_in(
 }
 
 // More statements, nodes or values in a statement than 01 allows.
+#[tactic(auto, unfolding(crate::specs::Passes::too_many))]
 pub fn too_many(list: &[u16], nodes: &[u16]) -> bool
     ensures { result ≡ too_many list.now nodes.now }
 {
@@ -106,14 +99,7 @@ pub fn too_many(list: &[u16], nodes: &[u16]) -> bool
 fn any_overfull(list: &[u16], rows: usize) -> bool
     ensures { result ≡ overfull_in list.now rows }
 {
-    let mut i = rows;
-    while 0 < i {
-        i -= 1;
-        if overfull(list, i) {
-            return true;
-        }
-    }
-    false
+    (0..rows).any(|i| overfull(list, i))
 }
 
 // Passes are made and counted until one is settled, at most 64.
@@ -132,18 +118,17 @@ fn passes(
     ensures table { table.new ≡ (settle_of (source list.now items.now nodes.now) most_passes 0 table.old sizes.old).table }
     ensures sizes { sizes.new ≡ (settle_of (source list.now items.now nodes.now) most_passes 0 table.old sizes.old).sizes }
 {
-    let mut made: u8 = 0;
-    while made < MOST_PASSES {
-        made += 1;
+    for before in 0..MOST_PASSES {
         let s = pass(list, items, nodes, firsts, table, sizes);
         if !s.changed {
-            return answer(made, s);
+            return answer(before + 1, s);
         }
     }
-    refused(NOT_SETTLED, made)
+    refused(MOST_PASSES, Refusal::NotSettled)
 }
 
 // One pass: a walk with segment 0 alone.
+#[tactic(auto, unfolding(crate::specs::Walks::walk_to))]
 fn pass(
     list: &[u16],
     items: &[u16],
@@ -164,32 +149,24 @@ fn pass(
 }
 
 // What a settled pass answers.
+#[tactic(auto, unfolding(crate::specs::Passes::answer_of))]
 fn answer(made: u8, s: State) -> Ended
     ensures { result ≡ answer_of made s }
 {
-    if s.refusal == 0 {
-        return Ended {
-            refusal: 0,
-            passes: made,
-            end: s.at,
-            fine: s.fine,
-        };
-    }
     Ended {
-        refusal: s.refusal,
         passes: made,
-        end: 0,
+        end: s.end(),
         fine: s.fine,
     }
 }
 
-fn refused(refusal: u8, passes: u8) -> Ended
-    ensures { result ≡ ended refusal passes 0 0 }
+// No statement is known to stand before the refused one.
+fn refused(passes: u8, why: Refusal) -> Ended
+    ensures { result ≡ ended passes (Err why) 0 }
 {
     Ended {
-        refusal,
         passes,
-        end: 0,
+        end: Err(why),
         fine: 0,
     }
 }

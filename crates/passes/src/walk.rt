@@ -4,25 +4,27 @@ ghost use Rattle.segments.specs.Segments.{table_after};
 ghost use Rattle.statements.specs.Listing.{rows_of};
 ghost use Rattle.passes.specs.Labels.{ill_of};
 ghost use Rattle.passes.specs.Walks.{source, walk, begun, here_of, touched, marked_labels, marked_state, effect_in, sized_state};
-ghost use Rattle.passes.specs.Walks.{first_refusal, judged, grown, moved, origin_state, advanced_state, advanced_starts, step_of, walk_of};
+ghost use Rattle.passes.specs.Walks.{judged, grown, moved, origin_state, advanced_state, advanced_starts, step_of, walk_of};
+ghost use Rattle.passes.specs.Passes.{end_of};
 ghost use Rattle.passes.specs.Steps.{bearers_of};
 
 use crate::labels::is_ill;
-use ground::buffers::store_cell;
-use ground::tables::cell;
+use ground::buffers::store;
+use ground::refusals::Refusal;
+use ground::tables::cell_or;
 use statements::Effect;
 use statements::effects::{counted, effect};
 use statements::listing::{NONE, label_at, rows_of};
 use values::pages::Page;
 
-// The running address, 0 to 65536; the segment starts beside 0; the page; the first refusal, 0 for none; how many statements
-// stand before the refused one; and whether an address or a size changed.
+// The running address, 0 to 65536; how many segment starts stand beside 0, in a table that is lent (docs/ROWS.md); the page; the first refusal; how
+// many statements stand before the refused one; and whether an address or a size changed.
 #[derive(Clone, Copy)]
 pub(crate) struct State {
     pub at: u32,
     pub count: usize,
     pub page: Page,
-    pub refusal: u8,
+    pub refusal: Option<Refusal>,
     pub fine: usize,
     pub changed: bool,
 }
@@ -32,13 +34,6 @@ pub(crate) struct State {
 struct Marked {
     state: State,
     effect: Effect,
-}
-
-// The first of two refusals, 0 for none.
-fn earlier(a: u8, b: u8) -> u8
-    ensures { result ≡ first_refusal a b }
-{
-    if a == 0 { b } else { a }
 }
 
 impl State {
@@ -57,6 +52,7 @@ impl State {
     }
 
     // A label takes the running address at once, unless it is refused: then it keeps the address of its first bearer.
+    #[tactic(auto, unfolding(crate::specs::Walks::marked_state, crate::specs::Walks::marked_labels, crate::specs::Walks::marks_of, ground::specs::Choice::pick))]
     fn mark(self, list: &[u16], i: usize, ill: bool, labels: &mut [u16]) -> Self
         requires { ill ≡ ill_of list.now i }
         ensures answer { result ≡ marked_state list.now i self labels.old }
@@ -74,12 +70,13 @@ impl State {
         ensures table { labels.new ≡ set labels.old place (here_of self) }
     {
         let here = self.here();
-        let old = cell(labels, place);
-        store_cell(labels, place, here);
+        let old = cell_or(labels, place, 0);
+        store(labels, place, here);
         self.touch(old != here)
     }
 
     // What the statement does here, built fresh, and what it counts.
+    #[tactic(auto, unfolding(crate::specs::Walks::effect_in))]
     fn effect_of(
         self,
         list: &[u16],
@@ -120,6 +117,7 @@ impl State {
         Marked { state, effect }
     }
 
+    #[tactic(auto, unfolding(crate::specs::Walks::sized_state))]
     fn resize(self, sizes: &mut [u32], i: usize, e: Effect) -> Self
         requires { i < length sizes.old }
         ensures answer { result ≡ sized_state sizes.old i e self }
@@ -130,35 +128,39 @@ impl State {
         self.touch(old != e.size)
     }
 
-    // The statement's refusal, 0 for none. A pass keeps the first.
-    fn judge(mut self, i: usize, why: u8) -> Self
+    // The statement's refusal, if it has one. A pass keeps the first.
+    #[tactic(auto, unfolding(crate::specs::Walks::judged, ground::specs::Choice::pick))]
+    fn judge(mut self, i: usize, why: Option<Refusal>) -> Self
         requires { i < 1024 }
         ensures { result ≡ judged i why self }
     {
-        self.refusal = earlier(self.refusal, why);
-        if self.refusal == 0 {
+        self.refusal = self.refusal.or(why);
+        if self.refusal.is_none() {
             self.fine = i + 1;
         }
         self
     }
 
+    // Where it ended, or why not.
+    #[tactic(auto, unfolding(crate::specs::Passes::end_of))]
+    pub(crate) fn end(self) -> Result<u32, Refusal>
+        ensures { result ≡ end_of self.refusal self.at }
+    {
+        match self.refusal {
+            None => Ok(self.at),
+            Some(why) => Err(why),
+        }
+    }
+
     // The size is added, and the page is what the statement leaves.
-    fn grow(self, e: Effect) -> Self
+    fn grow(mut self, e: Effect) -> Self
         requires { self.at + e.size ≤ 65536 }
         ensures { result ≡ grown e self }
     {
-        let old = self.page;
         let turn = e.turn;
-        let page = turn.turns(old);
-        let at = self.at + e.size;
-        State {
-            at,
-            count: self.count,
-            page,
-            refusal: self.refusal,
-            fine: self.fine,
-            changed: self.changed,
-        }
+        self.page = turn.turns(self.page);
+        self.at += e.size;
+        self
     }
 
     fn go(mut self, to: u16, count: usize) -> Self
@@ -170,6 +172,7 @@ impl State {
     }
 
     // An ORG adds its segment and moves; where the segment is refused it moves nothing.
+    #[tactic(auto, unfolding(crate::specs::Walks::origin_from, crate::specs::Walks::judged))]
     fn origin(self, starts: &mut [u16], i: usize, to: u16) -> Self
         requires i_bound { i < 1024 }
         requires at_bound { self.at ≤ 65536 }
@@ -177,13 +180,13 @@ impl State {
         ensures table { starts.new ≡ table_after starts.old self.count to }
         ensures bound { result.at ≤ 65536 }
     {
-        let added = segments::add(starts, self.count, to);
-        if added.refusal != 0 {
-            return self.judge(i, added.refusal);
+        match segments::add(starts, self.count, to) {
+            Ok(count) => self.go(to, count).judge(i, None),
+            Err(why) => self.judge(i, Some(why)),
         }
-        self.go(to, added.count).judge(i, 0)
     }
 
+    #[tactic(auto, unfolding(crate::specs::Walks::advanced_state, crate::specs::Walks::advanced_starts, crate::specs::Walks::judged))]
     fn advance(self, starts: &mut [u16], i: usize, e: Effect) -> Self
         requires i_bound { i < 1024 }
         requires size_bound { self.at + e.size ≤ 65536 }
@@ -191,14 +194,15 @@ impl State {
         ensures table { starts.new ≡ advanced_starts starts.old e self }
         ensures bound { result.at ≤ 65536 }
     {
-        if e.moves {
-            return self.origin(starts, i, e.to);
+        match e.to {
+            Some(to) => self.origin(starts, i, to),
+            None => self.grow(e).judge(i, e.refusal),
         }
-        self.grow(e).judge(i, e.refusal)
     }
 }
 
 // One statement.
+#[tactic(auto, using(crate::proofs::Turns::step_joins))]
 fn step(
     list: &[u16],
     items: &[u16],
@@ -226,6 +230,7 @@ fn step(
 }
 
 // All statements, from address 0 with segment 0 alone and page 0.
+#[tactic(auto, using(crate::proofs::Turns::walk_more, crate::proofs::Turns::walk_none))]
 pub(crate) fn walk_all(
     list: &[u16],
     items: &[u16],
@@ -244,16 +249,12 @@ pub(crate) fn walk_all(
         at: 0,
         count: 0,
         page: Page::Known(0),
-        refusal: 0,
+        refusal: None,
         fine: 0,
         changed: false,
     };
-    let mut i: usize = 0;
-    let mut left = rows_of(list);
-    while 0 < left {
+    for i in 0..rows_of(list) {
         s = step(list, items, nodes, firsts, labels, sizes, starts, i, s);
-        i += 1;
-        left -= 1;
     }
     s
 }

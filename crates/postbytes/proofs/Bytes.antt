@@ -7,16 +7,17 @@ use Prim.Native.Nat.{ℕ, zero, suc, ◌+◌, ◌%◌, ◌^◌, ◌<◌, ◌≤�
 use native.Mathlib.Omega.{arith}
 use lib.Dec.{eqb}
 use lib.ListN.{take, get_or}
+use Rattle.std.specs.Prelude.{Result, IfOk}
+use Rattle.ground.specs.declared.refusals.Refusal.{Refusal}
 use Rattle.ground.specs.Words.{plus, minus, low}
 use Rattle.ground.proofs.Choices.{by_test, by_pick}
 use Rattle.values.specs.Widths.{valid_of, sign_extended_of}
 use Rattle.postbytes.specs.declared.Encoded.{Encoded}
 use Rattle.postbytes.specs.declared.Index.{Index}
 use Rattle.postbytes.specs.declared.Index.TheVariants.{Offset, Counter, Accumulator, Step, Address}
-use Rattle.postbytes.specs.declared.Listed.{Listed}
 use Rattle.postbytes.specs.Registers.{unknown_register, unknown_step, not_indexing, not_accumulator}
 use Rattle.postbytes.specs.Lists.{not_stack, strange_list, among, boxes, size_of}
-use Rattle.postbytes.specs.Writing.{refuse, alone, with_byte, with_word, register_bits, marked, sized_of, five_bits, constant_of, offset_of, counter_of, accumulator_base, accumulator_of, step_of, encode_of, near_of, relative_of}
+use Rattle.postbytes.specs.Writing.{alone, with_byte, with_word, register_bits, marked, sized_of, five_bits, constant_of, offset_of, counter_of, accumulator_base, accumulator_of, step_of, encode_of, near_of, relative_of}
 use Rattle.postbytes.specs.ListsWritten.{push_byte_of, push_of, paired_of}
 use Rattle.ground.proofs.Tests.{neither_left, neither_right}
 use Rattle.postbytes.proofs.Tests.{indexing, known_step}
@@ -31,9 +32,6 @@ three a b c ha hb hc zero = ha
 three a b c ha hb hc (suc zero) = hb
 three a b c ha hb hc (suc (suc zero)) = hc
 three a b c ha hb hc (suc (suc (suc k))) = omega arith
-
-none : (n : ℕ) → Bytes (refuse n)
-none n = three 0 0 0 (omega arith) (omega arith) (omega arith)
 
 one : (p : ℕ) → p < 256 → Bytes (alone p)
 one p h = three p 0 0 h (omega arith) (omega arith)
@@ -77,22 +75,26 @@ address_in (Accumulator r ind a) = 0
 address_in (Step r ind k) = 0
 address_in (Address address) = address
 
-pub bytes_fit : (i : Index) → address_in i < 2 ^ 16 → Bytes (encode_of i)
+-- of an answer, which may be a refusal
+abbrev Fit : Result Encoded Refusal → Type 0
+Fit r = IfOk r Bytes
+
+pub bytes_fit : (i : Index) → address_in i < 2 ^ 16 → IfOk (encode_of i) Bytes
 unfolding offset_of counter_of accumulator_of step_of
 bytes_fit (Offset r ind v) _ =
-    by_pick Bytes (unknown_register r || not (valid_of v)) (none 1)
-    (by_test Bytes (not_indexing r) (λ _. none 4) (λ hr. constant_bytes r ind v.width (sign_extended_of v).number hr (signed_fits v)))
+    by_pick Fit (unknown_register r || not (valid_of v)) tt
+    (by_test Fit (not_indexing r) (λ _. tt) (λ hr. constant_bytes r ind v.width (sign_extended_of v).number hr (signed_fits v)))
 bytes_fit (Counter ind v) _ =
-    by_pick Bytes (not (valid_of v)) (none 1)
+    by_pick Fit (not (valid_of v)) tt
     (sized _ _ v.width (sign_extended_of v).number (marked_fits ind 0x8C (omega arith)) (marked_fits ind 0x8D (omega arith)) (signed_fits v))
 bytes_fit (Accumulator r ind a) _ =
-    by_pick Bytes (unknown_register r || unknown_register a) (none 1)
-    (by_test Bytes (not_indexing r || not_accumulator a) (λ _. none 4)
+    by_pick Fit (unknown_register r || unknown_register a) tt
+    (by_test Fit (not_indexing r || not_accumulator a) (λ _. tt)
     (λ h. one _ (on_fits r (accumulator_base a) ind (neither_left (not_indexing r) (not_accumulator a) h) (base_fits a))))
 bytes_fit (Step r ind k) _ =
-    by_test Bytes (unknown_register r || unknown_step k) (λ _. none 1)
-    (λ h. by_pick Bytes (ind && (eqb k 1 || eqb k 3)) (none 5)
-    (by_test Bytes (not_indexing r) (λ _. none 4)
+    by_test Fit (unknown_register r || unknown_step k) (λ _. tt)
+    (λ h. by_pick Fit (ind && (eqb k 1 || eqb k 3)) tt
+    (by_test Fit (not_indexing r) (λ _. tt)
     (λ hr.
     let b = known_step k (neither_right (unknown_register r) (unknown_step k) h) in
     one _ (on_fits r (0x7F + k) ind hr (omega arith)))))
@@ -105,20 +107,22 @@ relative_bytes_fit target after ind =
     (narrow _ (minus target (plus after 2)) (marked_fits ind 0x8C (omega arith)))
     (wide _ (minus target (plus after 3)) (marked_fits ind 0x8D (omega arith)) (omega arith))
 
-pub push_byte_fits : (own : ℕ) (registers : List ℕ) (count : ℕ) → (push_of own registers count).byte < 256
+-- the byte of a list
+abbrev Byte : Result ℕ Refusal → Type 0
+Byte r = IfOk r (λ b. b < 256)
+
+pub push_byte_fits : (own : ℕ) (registers : List ℕ) (count : ℕ) → IfOk (push_of own registers count) (λ b. b < 256)
 unfolding push_of push_byte_of
 push_byte_fits own registers count =
-    let P : Listed → Type 0 = λ w. w.byte < 256 in
-    by_pick P (not_stack own || strange_list registers count) (omega arith)
-    (by_pick P (eqb count 0 || among own (take count registers)) (omega arith) (ticks_low (boxes own) (take count registers)))
+    by_pick Byte (not_stack own || strange_list registers count) tt
+    (by_pick Byte (eqb count 0 || among own (take count registers)) tt (ticks_low (boxes own) (take count registers)))
 
-pub pair_byte_fits : (registers : List ℕ) (count : ℕ) → (paired_of registers count).byte < 256
+pub pair_byte_fits : (registers : List ℕ) (count : ℕ) → IfOk (paired_of registers count) (λ b. b < 256)
 unfolding paired_of
 pair_byte_fits registers count =
-    let P : Listed → Type 0 = λ w. w.byte < 256 in
     let unlike = not (eqb (size_of (get_or registers 0 0)) (size_of (get_or registers 1 0))) in
-    by_pick P (strange_list registers count) (omega arith)
-    (by_pick P (not (eqb count 2) || unlike) (omega arith)
+    by_pick Byte (strange_list registers count) tt
+    (by_pick Byte (not (eqb count 2) || unlike) tt
     (let s = code_small (get_or registers 0 0) in
     let d = code_small (get_or registers 1 0) in
     omega arith))

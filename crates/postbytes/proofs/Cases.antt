@@ -5,17 +5,19 @@ use mathlib.Core.Bool.{true, false}
 use mathlib.Core.List.{List, [], ◌∷◌, map}
 use Prim.Native.Nat.{ℕ}
 use lib.ListN.{length}
+use Rattle.std.specs.Prelude.{Result, Ok, Err}
 use Rattle.ground.specs.Choice.{pick}
+use Rattle.ground.specs.declared.refusals.Refusal.{Refusal}
+use Rattle.ground.specs.declared.refusals.Refusal.TheVariants.{Unknown, BadRegister, SingleStepIndirect}
 use Rattle.values.specs.declared.Value.{Value}
 use Rattle.values.specs.Widths.{bits_of, extended, valid_of, sign_extended_of}
 use Rattle.postbytes.specs.declared.Encoded.{Encoded}
 use Rattle.postbytes.specs.declared.Index.{Index}
 use Rattle.postbytes.specs.declared.Index.TheVariants.{Offset, Step}
-use Rattle.postbytes.specs.declared.Listed.{Listed}
 use Rattle.postbytes.specs.Registers.{A, B, D, X, Y, U, S, PC, CC, DP}
 use Rattle.postbytes.specs.Lists.{any_unknown, strange_list, among, other_of, size_of}
-use Rattle.postbytes.specs.Writing.{refuse, alone, with_byte, with_word, marked, sized_of, constant_of, offset_of, step_of, encode_of, relative_of}
-use Rattle.postbytes.specs.ListsWritten.{refuse_list, listed, push_byte_of, push_of, code_of, paired_of}
+use Rattle.postbytes.specs.Writing.{alone, with_byte, with_word, marked, sized_of, constant_of, offset_of, step_of, encode_of, relative_of}
+use Rattle.postbytes.specs.ListsWritten.{push_byte_of, push_of, code_of, paired_of}
 
 pub data Question : Type 0 where
   operand : Index → Question
@@ -25,9 +27,9 @@ abbrev value : ℕ → ℕ → Value
 value width n = record { number = n; width = width }
 
 -- the code A6 stands at 0100, so the postbyte at 0101
-abbrev ask : Question → Encoded
+abbrev ask : Question → Result Encoded Refusal
 ask (operand i) = encode_of i
-ask (target t) = relative_of t 0x0101 false
+ask (target t) = Ok (relative_of t 0x0101 false)
 
 -- 0,X; 15,Y; 8-bit 16,Y; -16,U of either width; 8-bit -17,U; 16-bit 128,S; 8-bit [5,X]; t,PCR; [,X+]
 abbrev asked : List Question
@@ -45,19 +47,19 @@ asked =
     operand (Step X true 1) ∷
     []
 
-abbrev answered : List Encoded
+abbrev answered : List (Result Encoded Refusal)
 answered =
-    alone 0x84 ∷
-    alone 0x2F ∷
-    with_byte 0xA8 0x10 ∷
-    alone 0x50 ∷
-    alone 0x50 ∷
-    with_byte 0xC8 0xEF ∷
-    with_word 0xE9 0x0080 ∷
-    with_byte 0x98 0x05 ∷
-    with_byte 0x8C 0x7F ∷
-    with_word 0x8D 0x007F ∷
-    refuse 5 ∷
+    Ok (alone 0x84) ∷
+    Ok (alone 0x2F) ∷
+    Ok (with_byte 0xA8 0x10) ∷
+    Ok (alone 0x50) ∷
+    Ok (alone 0x50) ∷
+    Ok (with_byte 0xC8 0xEF) ∷
+    Ok (with_word 0xE9 0x0080) ∷
+    Ok (with_byte 0x98 0x05) ∷
+    Ok (with_byte 0x8C 0x7F) ∷
+    Ok (with_word 0x8D 0x007F) ∷
+    Err SingleStepIndirect ∷
     []
 
 pub cases : map ask asked ≡ answered
@@ -69,7 +71,7 @@ pub data List-question : Type 0 where
   pushed : ℕ → List ℕ → List-question
   paired : List ℕ → List-question
 
-abbrev ask_list : List-question → Listed
+abbrev ask_list : List-question → Result ℕ Refusal
 ask_list (pushed own list) = push_of own list (length list)
 ask_list (paired list) = paired_of list (length list)
 
@@ -99,27 +101,27 @@ pub list_cases :
     paired (A ∷ X ∷ []) ∷
     paired (A ∷ B ∷ A ∷ []) ∷
     [])
-    ≡ listed 0x80 ∷
-    listed 0x40 ∷
-    listed 0x20 ∷
-    listed 0x10 ∷
-    listed 0x08 ∷
-    listed 0x04 ∷
-    listed 0x02 ∷
-    listed 0x01 ∷
-    listed 0x40 ∷
-    listed 0x06 ∷
-    listed 0x06 ∷
-    refuse_list 4 ∷
-    refuse_list 4 ∷
-    refuse_list 1 ∷
-    listed 0x89 ∷
-    listed 0x01 ∷
-    listed 0x52 ∷
-    listed 0xAB ∷
-    listed 0x34 ∷
-    refuse_list 4 ∷
-    refuse_list 4 ∷
+    ≡ Ok 0x80 ∷
+    Ok 0x40 ∷
+    Ok 0x20 ∷
+    Ok 0x10 ∷
+    Ok 0x08 ∷
+    Ok 0x04 ∷
+    Ok 0x02 ∷
+    Ok 0x01 ∷
+    Ok 0x40 ∷
+    Ok 0x06 ∷
+    Ok 0x06 ∷
+    Err BadRegister ∷
+    Err BadRegister ∷
+    Err Unknown ∷
+    Ok 0x89 ∷
+    Ok 0x01 ∷
+    Ok 0x52 ∷
+    Ok 0xAB ∷
+    Ok 0x34 ∷
+    Err BadRegister ∷
+    Err BadRegister ∷
     []
 unfolding push_of push_byte_of paired_of code_of any_unknown strange_list among other_of size_of pick
 list_cases = refl

@@ -11,11 +11,11 @@ use lib.Dec.{eqb, ltb, eqb→eq, ltb→lt}
 use lib.ListN.{length, take, get_or, get_or-eq_default}
 use lib.Pow.{pow_pos, high}
 use borrow.Author.Tests.{ltb-true, ltb-false, eqb-true, leb-false, not-false}
+use Rattle.std.specs.Prelude.{Option, Some, None, Result, Ok, IfOk}
 use Rattle.ground.specs.Choice.{pick}
+use Rattle.ground.specs.declared.refusals.Refusal.{Refusal}
 use Rattle.ground.proofs.Choices.{by_test}
 use Rattle.ground.proofs.Ranges.{below}
-use Rattle.postbytes.specs.declared.Listed.{Listed}
-use Rattle.postbytes.specs.declared.Pair.TheVariants.{Is}
 use Rattle.postbytes.specs.Registers.{unknown_register}
 use Rattle.postbytes.specs.Lists.{any_unknown, strange_list, among, not_stack, other_of, boxes, size_of}
 use Rattle.postbytes.specs.ListsWritten.{ticks, push_byte_of, push_of, codes, code_of, paired_of}
@@ -72,15 +72,14 @@ all_but own list s a =
 -- reading the push byte of a list gives the list's set
 pub push_back :
     (own : ℕ) (registers : List ℕ) (count : ℕ) →
-    (push_of own registers count).refusal ≡ 0 →
-    registers_of own (push_of own registers count).byte ≡ set_of (take count registers)
+    IfOk (push_of own registers count) (λ b. registers_of own b ≡ set_of (take count registers))
 unfolding push_of push_byte_of registers_of
 push_back own registers count =
     let list = take count registers in
-    let P : Listed → Type 0 = λ w. w.refusal ≡ 0 → registers_of own w.byte ≡ set_of list in
-    by_test P (not_stack own || strange_list registers count) (λ _ e. absurd (omega arith))
-    (λ s. by_test P (eqb count 0 || among own list) (λ _ e. absurd (omega arith))
-    (λ a _. boxes_back (boxes own) list
+    let P : Result ℕ Refusal → Type 0 = λ r. IfOk r (λ b. registers_of own b ≡ set_of list) in
+    by_test P (not_stack own || strange_list registers count) (λ _. tt)
+    (λ s. by_test P (eqb count 0 || among own list) (λ _. tt)
+    (λ a. boxes_back (boxes own) list
     ∙ all_but own list (neither_left (not_stack own) (strange_list registers count) s) (neither_right (eqb count 0) (among own list) a)))
 
 -- each of a list's registers is known, where none is unknown
@@ -103,9 +102,20 @@ code_small r = go (ltb r 10) refl
         omega arith
 
 -- each register's code is read as that register
-code_back : (r : ℕ) → unknown_register r ≡ false → get_or coded (code_of r) 0 ≡ r
+-- a code's register as a number; one past the codes is of none
+abbrev numbered : Option ℕ → ℕ
+numbered (Some r) = suc r
+numbered None = 0
+
+numbered_once : (x : Option ℕ) (r : ℕ) → numbered x ≡ suc r → x ≡ Some r
+numbered_once (Some q) r e = ap Some (omega (arith, e))
+numbered_once None r e = absurd (omega (arith, e))
+
+code_back : (r : ℕ) → unknown_register r ≡ false → get_or coded (code_of r) None ≡ Some r
 unfolding code_of
-code_back r e = eqb→eq (get_or coded (code_of r) 0) r (below (λ (k : ℕ). eqb (get_or coded (code_of k) 0) k) 10 tt r (leb-false 10 r e))
+code_back r e =
+    let x : ℕ → Option ℕ = λ k. get_or coded (code_of k) None in
+    numbered_once (x r) r (eqb→eq (numbered (x r)) (suc r) (below (λ (k : ℕ). eqb (numbered (x k)) (suc k)) 10 tt r (leb-false 10 r e)))
 
 bytes_back : (x y : ℕ) → y < 16 → ((x * 16 + y) / 16 ≡ x) × ((x * 16 + y) % 16 ≡ y)
 bytes_back x y h = (omega arith, omega arith)
@@ -115,26 +125,25 @@ pair_back_of :
     unknown_register s ≡ false →
     unknown_register d ≡ false →
     not (eqb (size_of s) (size_of d)) ≡ false →
-    pair_of (code_of s * 16 + code_of d) ≡ Is s d
+    pair_of (code_of s * 16 + code_of d) ≡ Ok (record { source = s; destination = d })
 unfolding pair_of pick
 pair_back_of s d hs hd e =
     let p = bytes_back (code_of s) (code_of d) (code_small d) in
-    rw (p.0, p.1, code_back s hs, code_back d hd, hs, hd, e)
+    rw (p.0, p.1, code_back s hs, code_back d hd, not-false _ e)
 
 -- reading the transfer byte of two registers gives them, source first
 pub pair_back :
     (registers : List ℕ) (count : ℕ) →
-    (paired_of registers count).refusal ≡ 0 →
-    pair_of (paired_of registers count).byte ≡ Is (get_or registers 0 0) (get_or registers 1 0)
+    IfOk (paired_of registers count) (λ b. pair_of b ≡ Ok (record { source = get_or registers 0 0; destination = get_or registers 1 0 }))
 unfolding paired_of strange_list
 pair_back registers count =
     let s = get_or registers 0 0 in
     let d = get_or registers 1 0 in
-    let P : Listed → Type 0 = λ w. w.refusal ≡ 0 → pair_of w.byte ≡ Is s d in
+    let P : Result ℕ Refusal → Type 0 = λ r. IfOk r (λ b. pair_of b ≡ Ok (record { source = s; destination = d })) in
     let unlike = not (eqb (size_of s) (size_of d)) in
-    by_test P (strange_list registers count) (λ _ e. absurd (omega arith))
-    (λ k. by_test P (not (eqb count 2) || unlike) (λ _ e. absurd (omega arith))
-    (λ a _.
+    by_test P (strange_list registers count) (λ _. tt)
+    (λ k. by_test P (not (eqb count 2) || unlike) (λ _. tt)
+    (λ a.
     let n : count ≡ 2 = eqb-true count 2 (not-false (eqb count 2) (neither_left (not (eqb count 2)) unlike a)) in
     let u = neither_right (ltb 8 count) (any_unknown (take count registers)) k in
     pair_back_of s d (known_at registers count 0 u (omega arith)) (known_at registers count 1 u (omega arith))

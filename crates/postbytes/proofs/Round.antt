@@ -10,9 +10,11 @@ use native.Mathlib.Omega.{arith}
 use lib.Dec.{eqb}
 use lib.ListN.{length, get_or, length-append, length-take}
 use borrow.Author.Tests.{eqb-true, leb-false, le-ltb}
+use Rattle.std.specs.Prelude.{Result, Ok, IfOk}
 use Rattle.ground.specs.Choice.{pick}
+use Rattle.ground.specs.declared.refusals.Refusal.{Refusal}
 use Rattle.ground.specs.Words.{plus, minus, high, low, word}
-use Rattle.ground.proofs.Choices.{by_test}
+use Rattle.ground.proofs.Choices.{by_test, by_pick}
 use Rattle.values.specs.declared.Value.{Value}
 use Rattle.values.specs.Widths.{bits_of, extended, valid_of, sign_extended_of}
 use Rattle.postbytes.specs.declared.Encoded.{Encoded}
@@ -23,49 +25,53 @@ use Rattle.postbytes.specs.declared.Shape.TheVariants as shape
 use Rattle.postbytes.specs.declared.Addressing.{Addressing}
 use Rattle.postbytes.specs.declared.Addressing.TheVariants.{Offset, Counter, Accumulator, Step, Address}
 use Rattle.postbytes.specs.Registers.{X, unknown_register, unknown_step, not_indexing, not_accumulator}
-use Rattle.postbytes.specs.Writing.{refuse, alone, with_byte, with_word, written, register_bits, marked, sized_of, five_bits, constant_of, offset_of, counter_of, accumulator_base, accumulator_of, step_of, encode_of, near_of, relative_of}
-use Rattle.postbytes.specs.Reading.{direct_only, address_only, high_of, shape_of, extra_of, fill_of, is_defined}
+use Rattle.postbytes.specs.Writing.{alone, with_byte, with_word, written, register_bits, marked, sized_of, five_bits, constant_of, offset_of, counter_of, accumulator_base, accumulator_of, step_of, encode_of, near_of, relative_of}
+use Rattle.postbytes.specs.Reading.{direct_only, address_only, high_of, shape_of, extra_of, fill_of}
 use Rattle.postbytes.specs.Meanings.{meaning_of, Means}
 use Rattle.ground.proofs.Tests.{neither_left, neither_right}
 use Rattle.postbytes.proofs.Tests.{indexing, known_step}
 use Rattle.postbytes.proofs.FiveBits.{Has, five_shape}
 use Rattle.postbytes.proofs.Signs.{near_back, signed_fits, signed_back}
 
--- what was written and not refused is read as m
+-- what was written is read as m
 abbrev pub Back : Encoded → Addressing → Type 0
-Back e m = e.refusal ≡ 0 → (t : List ℕ) → Means (written e ++ t) e.length m
+Back e m = (t : List ℕ) → Means (written e ++ t) e.length m
 
-refused : (k : ℕ) (m : Addressing) → Back (refuse (suc k)) m
-refused k m e = absurd (omega arith)
+-- the same of an answer, which may be a refusal
+abbrev Backs : Addressing → Result Encoded Refusal → Type 0
+Backs m r = IfOk r (λ e. Back e m)
 
 back_alone : {m : Addressing} {s : Shape} (p : ℕ) → Has p 0 s → ((b c : ℕ) → fill_of s b c ≡ m) → Back (alone p) m
-back_alone {m} {s} p h f _ t = record {
+back_alone {m} {s} p h f t = record {
   some = omega arith;
   most = omega arith;
   there = omega arith;
-  defined = rw h.shape h.defined;
-  extra = rw (h.shape, h.extra) refl;
-  reads = rw h.shape (f (get_or t 0 0) (get_or t 1 0));
+  shape = s;
+  defined = h.shape;
+  extra = ap (λ (n : ℕ). 1 + n) h.extra;
+  reads = (f (get_or t 0 0) (get_or t 1 0));
 }
 
 back_byte : {m : Addressing} {s : Shape} (p b : ℕ) → Has p 1 s → ((c : ℕ) → fill_of s b c ≡ m) → Back (with_byte p b) m
-back_byte {m} {s} p b h f _ t = record {
+back_byte {m} {s} p b h f t = record {
   some = omega arith;
   most = omega arith;
   there = omega arith;
-  defined = rw h.shape h.defined;
-  extra = rw (h.shape, h.extra) refl;
-  reads = rw h.shape (f (get_or t 0 0));
+  shape = s;
+  defined = h.shape;
+  extra = ap (λ (n : ℕ). 1 + n) h.extra;
+  reads = (f (get_or t 0 0));
 }
 
 back_word : {m : Addressing} {s : Shape} (p n : ℕ) → Has p 2 s → fill_of s (high n) (low n) ≡ m → Back (with_word p n) m
-back_word {m} {s} p n h f _ t = record {
+back_word {m} {s} p n h f t = record {
   some = omega arith;
   most = omega arith;
   there = omega arith;
-  defined = rw h.shape h.defined;
-  extra = rw (h.shape, h.extra) refl;
-  reads = rw h.shape f;
+  shape = s;
+  defined = h.shape;
+  extra = ap (λ (n : ℕ). 1 + n) h.extra;
+  reads = f;
 }
 
 -- one law for every postbyte with bit 7 set: its register bits, its indirect bit, and its low four bits
@@ -99,13 +105,11 @@ module _ (r : ℕ) (ind : Bool) (hr : not_indexing r ≡ false) where
   line :
       (four n : ℕ) (s : ℕ → Shape) →
       four < 16 →
-      high_of (r - X) ind four ≡ s (X + (r - X)) →
-      is_defined (s r) ≡ true →
+      high_of (r - X) ind four ≡ Ok (s (X + (r - X))) →
       extra_of (s r) ≡ n →
       Has (marked ind (128 + four + register_bits r)) n (s r)
-  line four n s hf e d x = record {
-    shape = read_high r four ind hr hf ∙ e ∙ ap s (back_register r hr);
-    defined = d;
+  line four n s hf e x = record {
+    shape = read_high r four ind hr hf ∙ e ∙ ap (λ (k : ℕ). Ok (s k)) (back_register r hr);
     extra = x;
   }
 
@@ -142,35 +146,33 @@ back_constant r ind v hr =
     let n = (sign_extended_of v).number in
     let P : Encoded → Type 0 = λ e. Back e (Offset r ind n) in
     by_test P (eqb n 0)
-    (λ z. back_alone _ (line r ind hr 4 0 (λ k. shape.NoOffset k ind) (omega arith) refl refl refl) (λ b c. ap (Offset r ind) (sym (eqb-true n 0 z))))
+    (λ z. back_alone _ (line r ind hr 4 0 (λ k. shape.NoOffset k ind) (omega arith) refl refl) (λ b c. ap (Offset r ind) (sym (eqb-true n 0 z))))
     (λ _. by_test P (five_bits ind n) (back_five r n ind hr (signed_fits v))
     (λ _. back_sized v (Offset r ind)
-    (line r ind hr 8 1 (λ k. shape.OneByte k ind) (omega arith) refl refl refl)
-    (line r ind hr 9 2 (λ k. shape.TwoBytes k ind) (omega arith) refl refl refl)
+    (line r ind hr 8 1 (λ k. shape.OneByte k ind) (omega arith) refl refl)
+    (line r ind hr 9 2 (λ k. shape.TwoBytes k ind) (omega arith) refl refl)
     (λ b c. refl)
     (λ b c. refl)))
 
-back_offset : (r : ℕ) (ind : Bool) (v : Value) → Back (offset_of r ind v) (meaning_of (index.Offset r ind v))
+back_offset : (r : ℕ) (ind : Bool) (v : Value) → Backs (meaning_of (index.Offset r ind v)) (offset_of r ind v)
 unfolding offset_of
 back_offset r ind v =
-    let P : Encoded → Type 0 = λ e. Back e (Offset r ind (sign_extended_of v).number) in
-    by_test P (unknown_register r || not (valid_of v)) (λ _. refused 0 _)
-    (λ _. by_test P (not_indexing r) (λ _. refused 3 _) (λ hr. back_constant r ind v hr))
+    let P = Backs (Offset r ind (sign_extended_of v).number) in
+    by_pick P (unknown_register r || not (valid_of v)) tt (by_test P (not_indexing r) (λ _. tt) (back_constant r ind v))
 
 -- a PC form is written with its two open bits clear
 counter_shape : (ind : Bool) → Has (marked ind 0x8C) 1 (shape.CounterByte ind) × Has (marked ind 0x8D) 2 (shape.CounterWord ind)
 unfolding high_of pick
 counter_shape ind = (
-  record { shape = read_high X 12 ind refl (omega arith); defined = refl; extra = refl },
-  record { shape = read_high X 13 ind refl (omega arith); defined = refl; extra = refl },
+  record { shape = read_high X 12 ind refl (omega arith); extra = refl },
+  record { shape = read_high X 13 ind refl (omega arith); extra = refl },
 )
 
-back_counter : (ind : Bool) (v : Value) → Back (counter_of ind v) (meaning_of (index.Counter ind v))
+back_counter : (ind : Bool) (v : Value) → Backs (meaning_of (index.Counter ind v)) (counter_of ind v)
 unfolding counter_of
 back_counter ind v =
     let s = counter_shape ind in
-    by_test (λ (e : Encoded). Back e (Counter ind (sign_extended_of v).number)) (not (valid_of v)) (λ _. refused 0 _)
-    (λ _. back_sized v (Counter ind) s.0 s.1 (λ b c. refl) (λ b c. refl))
+    by_pick (Backs (Counter ind (sign_extended_of v).number)) (not (valid_of v)) tt (back_sized v (Counter ind) s.0 s.1 (λ b c. refl) (λ b c. refl))
 
 -- A 86, B 85, D 8B
 accumulator_shape :
@@ -179,17 +181,17 @@ accumulator_shape :
     a < 3 →
     Has (marked ind (accumulator_base a + register_bits r)) 0 (shape.Accumulator r ind a)
 unfolding accumulator_base high_of pick
-accumulator_shape r zero ind hr h = line r ind hr 6 0 (λ k. shape.Accumulator k ind 0) (omega arith) refl refl refl
-accumulator_shape r (suc zero) ind hr h = line r ind hr 5 0 (λ k. shape.Accumulator k ind 1) (omega arith) refl refl refl
-accumulator_shape r (suc (suc zero)) ind hr h = line r ind hr 11 0 (λ k. shape.Accumulator k ind 2) (omega arith) refl refl refl
+accumulator_shape r zero ind hr h = line r ind hr 6 0 (λ k. shape.Accumulator k ind 0) (omega arith) refl refl
+accumulator_shape r (suc zero) ind hr h = line r ind hr 5 0 (λ k. shape.Accumulator k ind 1) (omega arith) refl refl
+accumulator_shape r (suc (suc zero)) ind hr h = line r ind hr 11 0 (λ k. shape.Accumulator k ind 2) (omega arith) refl refl
 accumulator_shape r (suc (suc (suc a))) ind hr h = absurd (omega arith)
 
-back_accumulator : (r : ℕ) (ind : Bool) (a : ℕ) → Back (accumulator_of r ind a) (meaning_of (index.Accumulator r ind a))
+back_accumulator : (r : ℕ) (ind : Bool) (a : ℕ) → Backs (meaning_of (index.Accumulator r ind a)) (accumulator_of r ind a)
 unfolding accumulator_of
 back_accumulator r ind a =
-    let P : Encoded → Type 0 = λ e. Back e (Accumulator r ind a) in
-    by_test P (unknown_register r || unknown_register a) (λ _. refused 0 _)
-    (λ _. by_test P (not_indexing r || not_accumulator a) (λ _. refused 3 _)
+    let P = Backs (Accumulator r ind a) in
+    by_pick P (unknown_register r || unknown_register a) tt
+    (by_test P (not_indexing r || not_accumulator a) (λ _. tt)
     (λ h. back_alone _
     (accumulator_shape r a ind (neither_left (not_indexing r) (not_accumulator a) h) (leb-false 3 a (neither_right (not_indexing r) (not_accumulator a) h)))
     (λ b c. refl)))
@@ -203,30 +205,30 @@ step_shape :
     Has (marked ind (0x7F + k + register_bits r)) 0 (shape.Step r ind k)
 unfolding high_of direct_only pick
 step_shape r zero ind hr hk s = absurd (true≢false hk)
-step_shape r (suc zero) false hr hk s = line r false hr 0 0 (λ k. shape.Step k false 1) (omega arith) refl refl refl
+step_shape r (suc zero) false hr hk s = line r false hr 0 0 (λ k. shape.Step k false 1) (omega arith) refl refl
 step_shape r (suc zero) true hr hk s = absurd (true≢false s)
-step_shape r (suc (suc zero)) ind hr hk s = line r ind hr 1 0 (λ k. shape.Step k ind 2) (omega arith) refl refl refl
-step_shape r (suc (suc (suc zero))) false hr hk s = line r false hr 2 0 (λ k. shape.Step k false 3) (omega arith) refl refl refl
+step_shape r (suc (suc zero)) ind hr hk s = line r ind hr 1 0 (λ k. shape.Step k ind 2) (omega arith) refl refl
+step_shape r (suc (suc (suc zero))) false hr hk s = line r false hr 2 0 (λ k. shape.Step k false 3) (omega arith) refl refl
 step_shape r (suc (suc (suc zero))) true hr hk s = absurd (true≢false s)
-step_shape r (suc (suc (suc (suc zero)))) ind hr hk s = line r ind hr 3 0 (λ k. shape.Step k ind 4) (omega arith) refl refl refl
+step_shape r (suc (suc (suc (suc zero)))) ind hr hk s = line r ind hr 3 0 (λ k. shape.Step k ind 4) (omega arith) refl refl
 step_shape r (suc (suc (suc (suc (suc k))))) ind hr hk s = let b = known_step (suc (suc (suc (suc (suc k))))) hk in absurd (omega arith)
 
-back_step : (r : ℕ) (ind : Bool) (k : ℕ) → Back (step_of r ind k) (meaning_of (index.Step r ind k))
+back_step : (r : ℕ) (ind : Bool) (k : ℕ) → Backs (meaning_of (index.Step r ind k)) (step_of r ind k)
 unfolding step_of
 back_step r ind k =
-    let P : Encoded → Type 0 = λ e. Back e (Step r ind k) in
-    by_test P (unknown_register r || unknown_step k) (λ _. refused 0 _)
-    (λ h. by_test P (ind && (eqb k 1 || eqb k 3)) (λ _. refused 4 _)
-    (λ s. by_test P (not_indexing r) (λ _. refused 3 _)
+    let P = Backs (Step r ind k) in
+    by_test P (unknown_register r || unknown_step k) (λ _. tt)
+    (λ h. by_test P (ind && (eqb k 1 || eqb k 3)) (λ _. tt)
+    (λ s. by_test P (not_indexing r) (λ _. tt)
     (λ hr. back_alone _ (step_shape r k ind hr (neither_right (unknown_register r) (unknown_step k) h) s) (λ b c. refl))))
 
 back_address : (address : ℕ) → Back (with_word 0x9F address) (Address address)
 unfolding shape_of high_of address_only pick
 back_address address =
-    back_word 0x9F address (record { shape = refl; defined = refl; extra = refl }) (ap Address (div-add-mod' address 256))
+    back_word 0x9F address (record { shape = refl; extra = refl }) (ap Address (div-add-mod' address 256))
 
 -- reading what was written of an operand, whatever stands after it, gives the operand's meaning
-pub read_back : (i : Index) → Back (encode_of i) (meaning_of i)
+pub read_back : (i : Index) → IfOk (encode_of i) (λ e. Back e (meaning_of i))
 read_back (index.Offset r ind v) = back_offset r ind v
 read_back (index.Counter ind v) = back_counter ind v
 read_back (index.Accumulator r ind a) = back_accumulator r ind a
@@ -234,15 +236,14 @@ read_back (index.Step r ind k) = back_step r ind k
 read_back (index.Address address) = back_address address
 
 -- what was written has as many bytes as its length says
-pub back_length : {m : Addressing} (e : Encoded) → Back e m → e.refusal ≡ 0 → length (written e) ≡ e.length
-back_length e b z =
-    let w = (b z []).there in
+pub back_length : {m : Addressing} (e : Encoded) → Back e m → length (written e) ≡ e.length
+back_length e b =
+    let w = (b []).there in
     omega (arith, length-append (written e) [], length-take e.length e.bytes, min-le_left e.length (length e.bytes))
 
--- what was written is never refused, and read as the offset from PC that leads from its end to the target
+-- what was written is read as the offset from PC that leads from its end to the target
 pub record Leads (e : Encoded) (ind : Bool) (after target : ℕ) : Type 0 where
   pub offset : ℕ
-  pub accepted : e.refusal ≡ 0
   pub back : Back e (Counter ind offset)
   pub lands : (after + e.length + offset) % 65536 ≡ target
 
@@ -256,13 +257,11 @@ read_back_relative target after ind ht ha =
     by_test (λ (e : Encoded). Leads e ind after target) (near_of d₁)
     (λ q. record {
       offset = d₁;
-      accepted = refl;
       back = back_byte _ (low d₁) s.0 (λ c. ap (Counter ind) (near_back 8 8 128 d₁ refl refl refl (omega arith) q));
       lands = omega arith;
     })
     (λ _. record {
       offset = d₂;
-      accepted = refl;
       back = back_word _ d₂ s.1 (ap (Counter ind) (div-add-mod' d₂ 256));
       lands = omega arith;
     })

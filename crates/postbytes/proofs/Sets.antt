@@ -12,10 +12,11 @@ use lib.Dec.{T, eqb, ltb, ltb→lt}
 use lib.ListN.{length, take, get_or}
 use lib.Pow.{shr-shr}
 use borrow.Author.Tests.{ne_eqb}
+use Rattle.std.specs.List.{list_any}
 use Rattle.ground.specs.Choice.{pick}
 use Rattle.ground.proofs.Ranges.{both_left, both_right}
 use Rattle.postbytes.specs.Registers.{A, B, D, X, Y, U, S, PC, CC, DP}
-use Rattle.postbytes.specs.Lists.{any_of, covers, among, not_stack, other_of, boxes}
+use Rattle.postbytes.specs.Lists.{covers, among, not_stack, other_of, boxes}
 use Rattle.postbytes.specs.ListsWritten.{ticks, ticks_of_set, push_byte_of}
 use Rattle.postbytes.specs.Reading.{flag}
 use Rattle.postbytes.specs.Meanings.{set_of}
@@ -93,11 +94,11 @@ set_bits list =
     )
 
 -- ---- naming one register more
-any_more : (f : ℕ → Bool) (rs : List ℕ) (i : ℕ) → i < length rs → any_of f (take (suc i) rs) ≡ (any_of f (take i rs) || f (get_or rs i 0))
+any_more : (f : ℕ → Bool) (rs : List ℕ) (i : ℕ) → i < length rs → list_any f (take (suc i) rs) ≡ (list_any f (take i rs) || f (get_or rs i 0))
 any_more f [] i h = absurd (omega arith)
 any_more f (r ∷ rs) zero h = or-false (f r)
 any_more f (r ∷ rs) (suc i) h =
-    ap (λ (b : Bool). f r || b) (any_more f rs i (omega arith)) ∙ sym (or_assoc (f r) (any_of f (take i rs)) (f (get_or rs i 0)))
+    ap (λ (b : Bool). f r || b) (any_more f rs i (omega arith)) ∙ sym (or_assoc (f r) (list_any f (take i rs)) (f (get_or rs i 0)))
 
 member_more :
     (rs : List ℕ) (i q : ℕ) →
@@ -112,7 +113,7 @@ member_more rs i q h = go (eqb q D)
     go true = refl
     go false =
         any_more (covers q) rs i h
-        ∙ ap (λ (b : Bool). any_of (covers q) (take i rs) || b) (sym (or-false (covers q (get_or rs i 0))))
+        ∙ ap (λ (b : Bool). list_any (covers q) (take i rs) || b) (sym (or-false (covers q (get_or rs i 0))))
 
 -- a loop over the list joins the set of the register at its place
 pub set_more : (rs : List ℕ) (i : ℕ) → i < length rs → set_of (take (i + 1) rs) ≡ bit_or (set_of (take i rs)) (set_of (get_or rs i 0 ∷ []))

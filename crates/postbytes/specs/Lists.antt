@@ -1,16 +1,12 @@
 -- Lists of registers: what they name, for those who write them and those who read them.
-use Rattle.std.specs.Prelude.{ℕ, Bool, false, ◌&&◌, ◌||◌, not, List, [], ◌∷◌, eqb, ltb, leb, take}
+use Rattle.std.specs.Prelude.{ℕ, Bool, ◌&&◌, ◌||◌, not, List, [], ◌∷◌, eqb, ltb, leb, take}
+use Rattle.std.specs.List.{list_any}
 use Rattle.ground.specs.Choice.{pick}
 use Rattle.postbytes.specs.Registers.{A, B, D, X, Y, U, S, PC, CC, DP, unknown_register}
 
--- a test passes for some register of a list
-abbrev pub any_of : (ℕ → Bool) → List ℕ → Bool
-any_of f [] = false
-any_of f (r ∷ rs) = f r || any_of f rs
-
 -- a register of the list is unknown
 unfoldable pub any_unknown : List ℕ → Bool
-any_unknown list = any_of unknown_register list
+any_unknown list = list_any unknown_register list
 
 -- "over 8 registers", or one of those that count is unknown
 unfoldable pub strange_list : List ℕ → ℕ → Bool
@@ -22,7 +18,7 @@ covers r n = eqb n r || (eqb n D && (eqb r A || eqb r B))
 
 -- the register r is in the list
 unfoldable pub among : ℕ → List ℕ → Bool
-among r list = any_of (covers r) list
+among r list = list_any (covers r) list
 
 -- a push's own stack pointer is S or U
 abbrev pub not_stack : ℕ → Bool

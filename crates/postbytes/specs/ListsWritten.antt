@@ -1,15 +1,9 @@
 -- 01: "Pushes: the sheet's bits; D is A with B; naming one twice changes nothing. EXG/TFR codes: the sheet's, source high; both of one size."
-use Rattle.std.specs.Prelude.{ℕ, ◌+◌, ◌*◌, ◌/◌, ◌%◌, ◌^◌, ◌||◌, not, List, [], ◌∷◌, eqb, length, take, get_or}
+use Rattle.std.specs.Prelude.{ℕ, ◌+◌, ◌*◌, ◌/◌, ◌%◌, ◌^◌, ◌||◌, not, List, [], ◌∷◌, eqb, length, take, get_or, Result, Ok, Err}
 use Rattle.ground.specs.Choice.{pick}
-use Rattle.ground.specs.Refusals.{unknown, bad_register}
-use Rattle.postbytes.specs.declared.Listed.{Listed}
+use Rattle.ground.specs.declared.refusals.Refusal.{Refusal}
+use Rattle.ground.specs.declared.refusals.Refusal.TheVariants.{Unknown, BadRegister}
 use Rattle.postbytes.specs.Lists.{not_stack, strange_list, among, boxes, size_of}
-
-abbrev pub refuse_list : ℕ → Listed
-refuse_list n = record { refusal = n; byte = 0 }
-
-abbrev pub listed : ℕ → Listed
-listed b = record { refusal = 0; byte = b }
 
 -- the boxes of those registers that are in the list, ticked; the first of n boxes is bit n - 1
 abbrev pub ticks : List ℕ → List ℕ → ℕ
@@ -25,11 +19,11 @@ unfoldable pub push_byte_of : ℕ → List ℕ → ℕ
 push_byte_of own list = ticks (boxes own) list
 
 -- "Pushes name 1 to 8 registers", and not their "own stack pointer"
-unfoldable pub push_of : ℕ → List ℕ → ℕ → Listed
+unfoldable pub push_of : ℕ → List ℕ → ℕ → Result ℕ Refusal
 push_of own registers count =
-    pick (not_stack own || strange_list registers count) (refuse_list unknown)
-    (pick (eqb count 0 || among own (take count registers)) (refuse_list bad_register)
-    (listed (push_byte_of own (take count registers))))
+    pick (not_stack own || strange_list registers count) (Err Unknown)
+    (pick (eqb count 0 || among own (take count registers)) (Err BadRegister)
+    (Ok (push_byte_of own (take count registers))))
 
 -- the sheet's transfer codes of A, B, D, X, Y, U, S, PC, CC, DP
 abbrev pub codes : List ℕ
@@ -39,8 +33,8 @@ unfoldable pub code_of : ℕ → ℕ
 code_of r = get_or codes r 0
 
 -- "EXG and TFR two", "source high; both of one size"
-unfoldable pub paired_of : List ℕ → ℕ → Listed
+unfoldable pub paired_of : List ℕ → ℕ → Result ℕ Refusal
 paired_of registers count =
-    pick (strange_list registers count) (refuse_list unknown)
-    (pick (not (eqb count 2) || not (eqb (size_of (get_or registers 0 0)) (size_of (get_or registers 1 0)))) (refuse_list bad_register)
-    (listed (code_of (get_or registers 0 0) * 16 + code_of (get_or registers 1 0))))
+    pick (strange_list registers count) (Err Unknown)
+    (pick (not (eqb count 2) || not (eqb (size_of (get_or registers 0 0)) (size_of (get_or registers 1 0)))) (Err BadRegister)
+    (Ok (code_of (get_or registers 0 0) * 16 + code_of (get_or registers 1 0))))

@@ -1,14 +1,15 @@
 -- What an operand and a list of registers mean, from themselves alone, and what it is for bytes to be read so.
-use Rattle.std.specs.Prelude.{◌≡◌, true, List, [], ◌∷◌, ℕ, ◌+◌, ◌^◌, ◌≤◌, length, get_or}
+use Rattle.std.specs.Prelude.{◌≡◌, List, [], ◌∷◌, ℕ, ◌+◌, ◌^◌, ◌≤◌, length, get_or, Ok}
 use Rattle.ground.specs.Choice.{pick}
 use Rattle.values.specs.Widths.{sign_extended_of}
 use Rattle.postbytes.specs.declared.Index.{Index}
 use Rattle.postbytes.specs.declared.Index.TheVariants as index
+use Rattle.postbytes.specs.declared.Shape.{Shape}
 use Rattle.postbytes.specs.declared.Addressing.{Addressing}
 use Rattle.postbytes.specs.declared.Addressing.TheVariants.{Offset, Counter, Accumulator, Step, Address}
 use Rattle.postbytes.specs.Registers.{A, B, X, Y, U, S, PC, CC, DP}
 use Rattle.postbytes.specs.Lists.{among}
-use Rattle.postbytes.specs.Reading.{is_defined, shape_of, extra_of, fill_of}
+use Rattle.postbytes.specs.Reading.{shape_of, extra_of, fill_of}
 
 -- 01, "Meaning": an offset is its number modulo 65536, sign-extended
 abbrev pub meaning_of : Index → Addressing
@@ -31,6 +32,7 @@ pub record Means (l : List ℕ) (n : ℕ) (m : Addressing) : Type 0 where
   pub some : 1 ≤ n
   pub most : n ≤ 3
   pub there : n ≤ length l
-  pub defined : is_defined (shape_of (get_or l 0 0)) ≡ true
-  pub extra : 1 + extra_of (shape_of (get_or l 0 0)) ≡ n
-  pub reads : fill_of (shape_of (get_or l 0 0)) (get_or l 1 0) (get_or l 2 0) ≡ m
+  pub shape : Shape
+  pub defined : shape_of (get_or l 0 0) ≡ Ok shape
+  pub extra : 1 + extra_of shape ≡ n
+  pub reads : fill_of shape (get_or l 1 0) (get_or l 2 0) ≡ m

@@ -39,10 +39,10 @@ pub enum Index {
     },
 }
 
-// The postbyte and the bytes after it, zeros past the length; or a refusal and zeros.
+// The postbyte and the bytes after it, zeros past the length.
+// Three bytes and a length, and no list: document 01 asks for bytes and a length, and nothing here is allocated.
 #[derive(Clone, Copy)]
 pub struct Encoded {
-    pub refusal: u8,
     pub bytes: [u8; 3],
     pub length: u8,
 }
@@ -84,7 +84,6 @@ pub enum Shape {
         indirect: bool,
     },
     Address,
-    Undefined,
 }
 
 // What an indexed operand means: the sheet's indexed addressing, with an offset of 16 bits, sign-extended.
@@ -112,19 +111,11 @@ pub enum Addressing {
     Address {
         address: u16,
     },
-    Undefined,
-}
-
-// The byte of a list of registers; or a refusal and zero.
-#[derive(Clone, Copy)]
-pub struct Listed {
-    pub refusal: u8,
-    pub byte: u8,
 }
 
 // The two registers of EXG and TFR.
 #[derive(Clone, Copy)]
-pub enum Pair {
-    Is { source: u8, destination: u8 },
-    Undefined,
+pub struct Pair {
+    pub source: u8,
+    pub destination: u8,
 }

@@ -1,55 +1,30 @@
 // Register postbytes: the push byte of PSHS, PULS, PSHU and PULU, and the transfer byte of EXG and TFR, each written and read.
 // A list of registers is the first `count` of eight; the other places count for nothing.
-ghost use Rattle.std.specs.Prelude.{◌≡◌, [], ◌∷◌, ◌/◌, ◌%◌, ◌^◌, ◌<◌, ◌≤◌, eqb, take};
+// Eight cells and a count, and no slice: a count over eight is a caller's too, and is told here as unknown (docs/ROWS.md).
+ghost use Rattle.std.specs.Prelude.{◌≡◌, [], ◌∷◌, ◌/◌, ◌%◌, ◌^◌, ◌<◌, eqb, take};
 ghost use Rattle.ground.specs.Choice.{pick};
 ghost use Rattle.postbytes.specs.Lists.{among, any_unknown, strange_list, covers, other_of, boxes, size_of};
-ghost use Rattle.postbytes.specs.ListsWritten.{refuse_list, listed, ticks_of_set, push_of, code_of, paired_of};
+ghost use Rattle.postbytes.specs.ListsWritten.{ticks_of_set, push_of, code_of, paired_of};
 ghost use Rattle.postbytes.specs.ListsRead.{registers_of, pair_of};
 ghost use Rattle.postbytes.specs.Meanings.{set_of};
 
+use crate::Pair;
 use crate::numbers::{A, B, CC, D, DP, PC, S, U, X, Y};
-use crate::{Listed, Pair};
-use ground::refusals::{BAD_REGISTER, UNKNOWN};
-
-fn refused(number: u8) -> Listed
-    ensures { result ≡ refuse_list number }
-{
-    Listed {
-        refusal: number,
-        byte: 0,
-    }
-}
-
-fn listed(byte: u8) -> Listed
-    ensures { result ≡ listed byte }
-{
-    Listed { refusal: 0, byte }
-}
+use ground::refusals::Refusal;
 
 // Some register of the list has a number that no register has.
-fn any_unknown(registers: [u8; 8], count: u8) -> bool
-    requires { count ≤ 8 }
-    ensures { result ≡ any_unknown (take count registers) }
+fn any_unknown(registers: &[u8]) -> bool
+    ensures { result ≡ any_unknown registers.now }
 {
-    let end = count as usize;
-    let mut i: usize = 0;
-    while i < end {
-        if 10 <= registers[i] {
-            return true;
-        }
-        i += 1;
-    }
-    false
+    registers.iter().any(|register| 10 <= *register)
 }
 
 // More than eight registers are named, or an unknown one.
+#[tactic(auto, unfolding(crate::specs::Lists::strange_list))]
 pub fn strange(registers: [u8; 8], count: u8) -> bool
     ensures { result ≡ strange_list registers count }
 {
-    if 8 < count {
-        return true;
-    }
-    any_unknown(registers, count)
+    8 < count || any_unknown(&registers[..count as usize])
 }
 
 // Naming a register puts another in the list: itself, and D both A and B.
@@ -59,30 +34,12 @@ fn covers(register: u8, named: u8) -> bool
     (named == register) | ((named == D) & ((register == A) | (register == B)))
 }
 
-// A register is in the list.
-fn among_few(register: u8, registers: [u8; 8], count: u8) -> bool
-    requires { count ≤ 8 }
-    ensures { result ≡ among register (take count registers) }
-{
-    let end = count as usize;
-    let mut i: usize = 0;
-    while i < end {
-        if covers(register, registers[i]) {
-            return true;
-        }
-        i += 1;
-    }
-    false
-}
-
-// The same of any count: there are no more than eight registers to be named.
+// A register is in the list. There are no more than eight registers to be named.
 pub fn among(register: u8, registers: [u8; 8], count: u8) -> bool
     ensures { result ≡ among register (take count registers) }
 {
-    if 8 < count {
-        return among_few(register, registers, 8);
-    }
-    among_few(register, registers, count)
+    let named = &registers[..(count as usize).min(8)];
+    named.iter().any(|name| covers(register, *name))
 }
 
 // A register as a set: bit n for register n. D is A with B, and has no bit of its own.
@@ -99,20 +56,15 @@ fn named(register: u8) -> u16
 pub fn set_of(registers: [u8; 8], count: u8) -> u16
     ensures { result ≡ set_of (take count registers) }
 {
-    let end = count as usize;
-    let mut set: u16 = 0;
-    let mut i: usize = 0;
-    while i < 8 {
-        if end <= i {
-            return set;
-        }
-        set |= named(registers[i]);
-        i += 1;
+    let mut set = 0;
+    for register in &registers[..(count as usize).min(8)] {
+        set |= named(*register);
     }
     set
 }
 
 // The box of the other stack's pointer: U of PSHS and PULS, S of PSHU and PULU.
+#[tactic(auto, unfolding(crate::specs::Lists::other_of, ground::specs::Choice::pick))]
 fn u_or_s(own: u8) -> u8
     ensures { result ≡ other_of own }
 {
@@ -139,6 +91,7 @@ fn has(number: u16, bit: u8) -> bool
 }
 
 // A bit of one number as a bit of another: a register's in a set, and its box's in a push byte.
+#[tactic(auto, unfolding(ground::specs::Choice::pick))]
 fn moved(number: u16, from: u8, to: u8) -> u16
     requires { (from < 16) × (to < 16) }
     ensures { result ≡ pick (eqb (number / 2 ^ from % 2) 1) (2 ^ to) 0 }
@@ -146,16 +99,14 @@ fn moved(number: u16, from: u8, to: u8) -> u16
     if has(number, from) { 1 << to } else { 0 }
 }
 
-// The boxes of a set's registers, ticked.
+// The boxes of a set's registers, ticked. The place is counted: it is the box's bit.
 fn push_byte(own: u8, set: u16) -> u8
     ensures { result ≡ ticks_of_set (boxes own) set }
 {
     let row = boxes(own);
     let mut byte: u16 = 0;
-    let mut i: u8 = 0;
-    while i < 8 {
+    for i in 0..8u8 {
         byte += moved(set, row[i as usize], 7 - i);
-        i += 1;
     }
     byte as u8
 }
@@ -166,86 +117,96 @@ pub fn registers_of(own: u8, byte: u8) -> u16
 {
     let row = boxes(own);
     let mut set: u16 = 0;
-    let mut i: u8 = 0;
-    while i < 8 {
+    for i in 0..8u8 {
         set += moved(byte as u16, 7 - i, row[i as usize]);
-        i += 1;
     }
     set
 }
 
 // The push byte of PSHS and PULS, whose own pointer is S, or of PSHU and PULU, whose own is U.
-pub fn push(own: u8, registers: [u8; 8], count: u8) -> Listed
+#[tactic(auto, unfolding(crate::specs::ListsWritten::push_of, ground::specs::Choice::pick))]
+pub fn push(own: u8, registers: [u8; 8], count: u8) -> Result<u8, Refusal>
     ensures { result ≡ push_of own registers count }
 {
     let bad = !((own == S) | (own == U)) | strange(registers, count);
     if bad {
-        return refused(UNKNOWN);
+        return Err(Refusal::Unknown);
     }
     let set = set_of(registers, count);
     let barred = (count == 0) | has(set, own);
     if barred {
-        return refused(BAD_REGISTER);
+        return Err(Refusal::BadRegister);
     }
-    listed(push_byte(own, set))
+    Ok(push_byte(own, set))
 }
 
 // The sheet's transfer codes of A, B, D, X, Y, U, S, PC, CC, DP.
 const CODES: [u8; 10] = [0x8, 0x9, 0x0, 0x1, 0x2, 0x3, 0x4, 0x5, 0xA, 0xB];
 
+#[tactic(auto, unfolding(crate::specs::ListsWritten::code_of))]
 fn code(register: u8) -> u8
     ensures is { result ≡ code_of register }
     ensures most { result < 16 }
 {
-    if register < 10 {
-        CODES[register as usize]
-    } else {
-        0
-    }
+    CODES.get(register as usize).copied().unwrap_or(0)
 }
 
+#[tactic(auto, unfolding(crate::specs::Lists::size_of, ground::specs::Choice::pick))]
 fn size(register: u8) -> u8
     ensures { result ≡ size_of register }
 {
-    let wide = (D <= register) & (register <= PC);
-    if wide { 16 } else { 8 }
+    if (D..=PC).contains(&register) { 16 } else { 8 }
 }
 
 // The transfer byte of EXG and TFR: the first register is the source, the second the destination.
-pub fn pair(registers: [u8; 8], count: u8) -> Listed
+#[tactic(auto, unfolding(crate::specs::ListsWritten::paired_of, ground::specs::Choice::pick))]
+pub fn pair(registers: [u8; 8], count: u8) -> Result<u8, Refusal>
     ensures { result ≡ paired_of registers count }
 {
     if strange(registers, count) {
-        return refused(UNKNOWN);
+        return Err(Refusal::Unknown);
     }
     let source = registers[0];
     let destination = registers[1];
     let barred = (count != 2) | (size(source) != size(destination));
     if barred {
-        return refused(BAD_REGISTER);
+        return Err(Refusal::BadRegister);
     }
-    listed(code(source) * 16 + code(destination))
+    Ok(code(source) * 16 + code(destination))
 }
 
-const NONE: u8 = 10;
-
 // The registers of the transfer codes, 0 to F.
-const CODED: [u8; 16] = [
-    D, X, Y, U, S, PC, NONE, NONE, A, B, CC, DP, NONE, NONE, NONE, NONE,
+const CODED: [Option<u8>; 16] = [
+    Some(D),
+    Some(X),
+    Some(Y),
+    Some(U),
+    Some(S),
+    Some(PC),
+    None,
+    None,
+    Some(A),
+    Some(B),
+    Some(CC),
+    Some(DP),
+    None,
+    None,
+    None,
+    None,
 ];
 
 // The registers that a transfer byte names.
-pub fn pair_of(byte: u8) -> Pair
+#[tactic(auto, unfolding(crate::specs::ListsRead::pair_of, ground::specs::Choice::pick))]
+pub fn pair_of(byte: u8) -> Result<Pair, Refusal>
     ensures { result ≡ pair_of byte }
 {
-    let source = CODED[(byte / 16) as usize];
-    let destination = CODED[(byte % 16) as usize];
-    let barred = ((10 <= source) | (10 <= destination)) | (size(source) != size(destination));
-    if barred {
-        return Pair::Undefined;
+    let source = CODED[(byte / 16) as usize].ok_or(Refusal::Undefined)?;
+    let destination = CODED[(byte % 16) as usize].ok_or(Refusal::Undefined)?;
+    if size(source) != size(destination) {
+        return Err(Refusal::Undefined);
     }
-    Pair::Is {
+    Ok(Pair {
         source,
         destination,
-    }
+    })
 }

@@ -1,4 +1,5 @@
 // The registers, by number.
+// Registers, steps and accumulators are numbers and no enums: a caller's, garbage too (docs/ROWS.md).
 pub const A: u8 = 0;
 
 pub const B: u8 = 1;

@@ -6,8 +6,10 @@ ghost use Rattle.postbytes.specs.Reading.{direct_only, address_only, high_of, sh
 
 use crate::numbers::{A, B, D, X};
 use crate::{Addressing, Shape};
+use ground::refusals::Refusal;
 
 // The low five bits of a postbyte, sign-extended.
+#[tactic(auto, unfolding(values::specs::Widths::extended, ground::specs::Choice::pick))]
 fn five(postbyte: u8) -> u16
     ensures { result ≡ extended 5 (postbyte % 32) }
 {
@@ -15,6 +17,7 @@ fn five(postbyte: u8) -> u16
     if bits < 16 { bits } else { bits + 0xFFE0 }
 }
 
+#[tactic(auto, unfolding(values::specs::Widths::extended, ground::specs::Choice::pick))]
 fn byte(b: u8) -> u16
     ensures { result ≡ extended 8 b }
 {
@@ -28,87 +31,91 @@ fn word(b: u8, c: u8) -> u16
     (b as u16) * 256 + c as u16
 }
 
-fn accumulator(register: u8, indirect: bool, accumulator: u8) -> Shape
-    ensures { result ≡ Shape.Accumulator register indirect accumulator }
-{
-    Shape::Accumulator {
-        register,
-        indirect,
-        accumulator,
-    }
-}
-
-fn step(register: u8, indirect: bool, step: u8) -> Shape
-    ensures { result ≡ Shape.Step register indirect step }
-{
-    Shape::Step {
-        register,
-        indirect,
-        step,
-    }
-}
-
 // A single step has no indirect form.
-fn single_step(register: u8, indirect: bool, step: u8) -> Shape
+#[tactic(auto, unfolding(crate::specs::Reading::direct_only, ground::specs::Choice::pick))]
+fn single_step(register: u8, indirect: bool, step: u8) -> Result<Shape, Refusal>
     ensures { result ≡ direct_only indirect (Shape.Step register indirect step) }
 {
     if indirect {
-        return Shape::Undefined;
+        return Err(Refusal::Undefined);
     }
-    Shape::Step {
+    Ok(Shape::Step {
         register,
         indirect,
         step,
-    }
+    })
 }
 
 // Extended indirect is one postbyte only.
-fn address_only(bits: u8, indirect: bool) -> Shape
+#[tactic(auto, unfolding(crate::specs::Reading::address_only, ground::specs::Choice::pick))]
+fn address_only(bits: u8, indirect: bool) -> Result<Shape, Refusal>
     ensures { result ≡ address_only bits indirect }
 {
     let fits = (bits == 0) & indirect;
     if fits {
-        Shape::Address
+        Ok(Shape::Address)
     } else {
-        Shape::Undefined
+        Err(Refusal::Undefined)
     }
 }
 
 // A postbyte with bit 7 set: its register bits, its indirect bit, and its low four bits.
-fn high(bits: u8, indirect: bool, low: u8) -> Shape
+#[tactic(auto, unfolding(crate::specs::Reading::high_of, ground::specs::Choice::pick))]
+fn high(bits: u8, indirect: bool, low: u8) -> Result<Shape, Refusal>
     requires { bits < 4 }
     ensures { result ≡ high_of bits indirect low }
 {
     let register = X + bits;
     match low {
-        0x4 => Shape::NoOffset { register, indirect },
-        0x8 => Shape::OneByte { register, indirect },
-        0x9 => Shape::TwoBytes { register, indirect },
-        0x6 => accumulator(register, indirect, A),
-        0x5 => accumulator(register, indirect, B),
-        0xB => accumulator(register, indirect, D),
+        0x4 => Ok(Shape::NoOffset { register, indirect }),
+        0x8 => Ok(Shape::OneByte { register, indirect }),
+        0x9 => Ok(Shape::TwoBytes { register, indirect }),
+        0x6 => Ok(Shape::Accumulator {
+            register,
+            indirect,
+            accumulator: A,
+        }),
+        0x5 => Ok(Shape::Accumulator {
+            register,
+            indirect,
+            accumulator: B,
+        }),
+        0xB => Ok(Shape::Accumulator {
+            register,
+            indirect,
+            accumulator: D,
+        }),
         0x0 => single_step(register, indirect, 1),
-        0x1 => step(register, indirect, 2),
+        0x1 => Ok(Shape::Step {
+            register,
+            indirect,
+            step: 2,
+        }),
         0x2 => single_step(register, indirect, 3),
-        0x3 => step(register, indirect, 4),
+        0x3 => Ok(Shape::Step {
+            register,
+            indirect,
+            step: 4,
+        }),
         // a PC form's register bits are "don't care"
-        0xC => Shape::CounterByte { indirect },
-        0xD => Shape::CounterWord { indirect },
+        0xC => Ok(Shape::CounterByte { indirect }),
+        0xD => Ok(Shape::CounterWord { indirect }),
         0xF => address_only(bits, indirect),
-        _ => Shape::Undefined,
+        _ => Err(Refusal::Undefined),
     }
 }
 
 // What a postbyte alone says.
-pub fn shape_of(postbyte: u8) -> Shape
+#[tactic(auto, unfolding(crate::specs::Reading::shape_of, ground::specs::Choice::pick))]
+pub fn shape_of(postbyte: u8) -> Result<Shape, Refusal>
     ensures { result ≡ shape_of postbyte }
 {
     let bits = postbyte / 32 % 4;
     if postbyte < 128 {
-        return Shape::FiveBits {
+        return Ok(Shape::FiveBits {
             register: X + bits,
             offset: five(postbyte),
-        };
+        });
     }
     let indirect = postbyte / 16 % 2 == 1;
     high(bits, indirect, postbyte % 16)
@@ -128,24 +135,7 @@ pub fn extra_of(shape: Shape) -> u8
         Shape::CounterByte { .. } => 1,
         Shape::CounterWord { .. } => 2,
         Shape::Address => 2,
-        Shape::Undefined => 0,
     }
-}
-
-fn offset(register: u8, indirect: bool, offset: u16) -> Addressing
-    ensures { result ≡ Addressing.Offset register indirect offset }
-{
-    Addressing::Offset {
-        register,
-        indirect,
-        offset,
-    }
-}
-
-fn counter(indirect: bool, offset: u16) -> Addressing
-    ensures { result ≡ Addressing.Counter indirect offset }
-{
-    Addressing::Counter { indirect, offset }
 }
 
 // What the postbyte means with the two bytes after it, of which it reads as many as belong to it.
@@ -153,13 +143,26 @@ pub fn fill(shape: Shape, first: u8, second: u8) -> Addressing
     ensures { result ≡ fill_of shape first second }
 {
     match shape {
-        Shape::NoOffset { register, indirect } => offset(register, indirect, 0),
-        Shape::FiveBits {
+        Shape::NoOffset { register, indirect } => Addressing::Offset {
             register,
-            offset: by,
-        } => offset(register, false, by),
-        Shape::OneByte { register, indirect } => offset(register, indirect, byte(first)),
-        Shape::TwoBytes { register, indirect } => offset(register, indirect, word(first, second)),
+            indirect,
+            offset: 0,
+        },
+        Shape::FiveBits { register, offset } => Addressing::Offset {
+            register,
+            indirect: false,
+            offset,
+        },
+        Shape::OneByte { register, indirect } => Addressing::Offset {
+            register,
+            indirect,
+            offset: byte(first),
+        },
+        Shape::TwoBytes { register, indirect } => Addressing::Offset {
+            register,
+            indirect,
+            offset: word(first, second),
+        },
         Shape::Accumulator {
             register,
             indirect,
@@ -178,11 +181,16 @@ pub fn fill(shape: Shape, first: u8, second: u8) -> Addressing
             indirect,
             step,
         },
-        Shape::CounterByte { indirect } => counter(indirect, byte(first)),
-        Shape::CounterWord { indirect } => counter(indirect, word(first, second)),
+        Shape::CounterByte { indirect } => Addressing::Counter {
+            indirect,
+            offset: byte(first),
+        },
+        Shape::CounterWord { indirect } => Addressing::Counter {
+            indirect,
+            offset: word(first, second),
+        },
         Shape::Address => Addressing::Address {
             address: word(first, second),
         },
-        Shape::Undefined => Addressing::Undefined,
     }
 }

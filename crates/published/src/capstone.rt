@@ -3,7 +3,7 @@
 ghost use Rattle.std.specs.Prelude.{◌<◌};
 
 use crate::lines::{is_dash, one, two};
-use ground::refusals::UNDEFINED;
+use ground::refusals::Refusal;
 use values::pages::Page;
 
 pub(crate) const LINE: usize = 18;
@@ -24,10 +24,15 @@ pub(crate) fn differs(line: &[u8]) -> bool {
     ];
     let decoded = decoder::decode(&bytes, 0x0100, Page::Known(0));
     if is_dash(line, 13) | !is_dash(line, 16) {
-        return decoded.refusal != UNDEFINED;
+        return decoded != Err(Refusal::Undefined);
     }
-    let meaning = decoded.meaning;
-    let length = (decoded.refusal == 0) & (decoded.length == one(line, 11));
-    let operation = rows::merged(byte_of(line, 13));
-    !(length & (meaning.operation == operation))
+    match decoded {
+        Ok(read) => {
+            let meaning = read.meaning;
+            let length = read.length == one(line, 11);
+            let operation = rows::merged(byte_of(line, 13));
+            !(length & (meaning.operation == operation))
+        }
+        Err(_) => true,
+    }
 }

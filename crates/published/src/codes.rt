@@ -1,6 +1,7 @@
 // The same map for the encoder, every name in every form: OPERATION FORM PAGE CODE, as `36 1 00 86`, with dashes where the sheet has none.
 use crate::lines::{is_dash, one, two};
-use rows::Coded;
+use ground::refusals::Refusal;
+use rows::Code;
 
 pub(crate) const LINE: usize = 11;
 
@@ -12,10 +13,10 @@ pub(crate) fn differs(line: &[u8]) -> bool {
     }
     let coded = rows::code_of(operation as u8, one(line, 3));
     match coded {
-        Coded::Code { page, code } => {
+        Ok(Code { page, code }) => {
             !((two(line, 5) == page as u16) & (two(line, 8) == code as u16))
         }
-        Coded::Missing => !is_dash(line, 5),
-        Coded::Unknown => true,
+        Err(Refusal::NoSuchMode) => !is_dash(line, 5),
+        Err(_) => true,
     }
 }

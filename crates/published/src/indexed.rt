@@ -2,7 +2,7 @@
 // as `84 2 7 3 0 0000`, with dashes where the sheet has none.
 use crate::lines::{four, is_dash, one, two};
 use decoder::Decoded;
-use ground::refusals::UNDEFINED;
+use ground::refusals::Refusal;
 use values::pages::Page;
 
 pub(crate) const LINE: usize = 16;
@@ -25,19 +25,19 @@ pub(crate) fn differs(line: &[u8], first: u8, second: u8) -> bool {
     if 255 < postbyte {
         return true;
     }
-    let decoded = decoder::decode(
+    let read = match decoder::decode(
         &[0xA6, postbyte as u8, first, second],
         0x0100,
         Page::Known(0),
-    );
-    if decoded.refusal != 0 {
-        return !(is_dash(line, 3) & (decoded.refusal == UNDEFINED));
-    }
-    let meaning = decoded.meaning;
+    ) {
+        Ok(read) => read,
+        Err(refusal) => return !(is_dash(line, 3) & (refusal == Refusal::Undefined)),
+    };
+    let meaning = read.meaning;
     let kind = meaning.kind;
     let parts = kind.in_parts();
-    let length = decoded.length == one(line, 3);
+    let length = read.length == one(line, 3);
     let form = (parts.kind == one(line, 5)) & (parts.first == one(line, 7));
     let indirect = parts.indirect == (one(line, 9) == 1);
-    !(length & form & indirect & (number_of(decoded) == four(line, 11)))
+    !(length & form & indirect & (number_of(read) == four(line, 11)))
 }

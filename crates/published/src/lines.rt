@@ -1,12 +1,12 @@
 // Lines of numbers in hexadecimal.
 ghost use Rattle.std.specs.Prelude.{◌<◌, ◌≤◌};
 
-use ground::tables::byte;
+use ground::tables::cell_or;
 use reader::digit;
 
 // A number of one digit; 16 where there is none.
 pub(crate) fn one(line: &[u8], at: usize) -> u8 {
-    digit(byte(line, at))
+    digit(cell_or(line, at, 0))
 }
 
 // A number of two digits; 256 where one is none.
@@ -36,5 +36,5 @@ pub(crate) fn four(line: &[u8], at: usize) -> u16
 
 // A dash stands for what is not there.
 pub(crate) fn is_dash(line: &[u8], at: usize) -> bool {
-    byte(line, at) == b'-'
+    cell_or(line, at, 0) == b'-'
 }

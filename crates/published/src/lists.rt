@@ -1,7 +1,7 @@
 // The same boxes for the encoder: the OWN stack pointer, a COUNT, as many REGISTERS and the push BYTE, as `6 3 789----- 89`, with dashes for the byte
 // where a register has no box or none is named.
 use crate::lines::{is_dash, one, two};
-use ground::refusals::BAD_REGISTER;
+use ground::refusals::Refusal;
 
 pub(crate) const LINE: usize = 16;
 
@@ -16,9 +16,8 @@ pub(crate) fn differs(line: &[u8]) -> bool {
         one(line, 10),
         one(line, 11),
     ];
-    let listed = postbytes::lists::push(one(line, 0), registers, one(line, 2));
-    if listed.refusal != 0 {
-        return !(is_dash(line, 13) & (listed.refusal == BAD_REGISTER));
+    match postbytes::lists::push(one(line, 0), registers, one(line, 2)) {
+        Ok(byte) => two(line, 13) != byte as u16,
+        Err(refusal) => !(is_dash(line, 13) & (refusal == Refusal::BadRegister)),
     }
-    two(line, 13) != listed.byte as u16
 }

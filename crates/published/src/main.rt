@@ -11,113 +11,91 @@ mod lists;
 mod opcodes;
 mod pushes;
 
-ghost use Rattle.std.specs.Prelude.{◌<◌, ◌≤◌};
+ghost use Rattle.std.specs.Prelude.{◌<◌};
 
 use std::io;
 use std::rt::Files;
 
-#[derive(Clone, Copy)]
-enum Table {
-    Opcodes,
-    Codes,
-    Postbytes,
-    Negatives,
-    Pushes,
-    Lists,
-    Capstone,
-}
-
 // How many lines were compared, and how many of them differ.
 #[derive(Clone, Copy)]
 struct Tally {
-    compared: u64,
-    differing: u64,
+    compared: usize,
+    differing: usize,
 }
 
-// The length of a table's lines, line ends included.
-fn width(table: Table) -> usize
-    ensures { 0 < result }
+// The lines of a text, each of one width, held to what the library answers.
+fn compare<F: Fn(&[u8]) -> bool>(text: &[u8], width: usize, differs: F) -> Tally
+    requires wide { 0 < width }
+    requires callable { F.IsAlwaysCallable differs }
 {
-    match table {
-        Table::Opcodes => opcodes::LINE,
-        Table::Codes => codes::LINE,
-        Table::Postbytes => indexed::LINE,
-        Table::Negatives => indexed::LINE,
-        Table::Pushes => pushes::LINE,
-        Table::Lists => lists::LINE,
-        Table::Capstone => capstone::LINE,
-    }
-}
-
-fn differs(table: Table, line: &[u8]) -> bool {
-    match table {
-        Table::Opcodes => opcodes::differs(line),
-        Table::Codes => codes::differs(line),
-        Table::Postbytes => indexed::differs(line, 0x12, 0x34),
-        Table::Negatives => indexed::differs(line, 0xFE, 0xDC),
-        Table::Pushes => pushes::differs(line),
-        Table::Lists => lists::differs(line),
-        Table::Capstone => capstone::differs(line),
-    }
-}
-
-fn compare(table: Table, text: &[u8]) -> Tally {
-    let wide = width(table);
-    let mut compared: u64 = 0;
-    let mut differing: u64 = 0;
-    let mut at: usize = 0;
-    while wide <= text.len() - at {
-        if differs(table, &text[at..]) {
-            differing += 1;
-        }
-        compared += 1;
-        at += wide;
-    }
+    let lines = text.chunks_exact(width);
     Tally {
-        compared,
-        differing,
+        compared: text.len() / width,
+        differing: lines.filter(|line| differs(line)).count(),
     }
-}
-
-fn say(rt: &impl Print, text: &str) -> io::Result<()> {
-    rt.print(text)
 }
 
 fn say_tally(rt: &impl Print, name: &str, tally: Tally) -> io::Result<()> {
-    say(rt, name)?;
-    say(rt, ": ")?;
-    rt.print(tally.compared)?;
-    say(rt, " compared, ")?;
-    rt.print(tally.differing)?;
-    say(rt, " differ\n")
+    println!(rt;
+        "{name}: {} compared, {} differ",
+        tally.compared, tally.differing
+    )
 }
 
 // Compares the whole of a file, of at most 65,536 bytes.
-fn report(rt: &(impl Files + Print), name: &str, table: Table) -> io::Result<()> {
+fn report<F: Fn(&[u8]) -> bool>(
+    rt: &(impl Files + Print),
+    name: &str,
+    width: usize,
+    differs: F,
+) -> io::Result<()>
+    requires wide { 0 < width }
+    requires callable { F.IsAlwaysCallable differs }
+{
     let mut text = [0; 65536];
     let n = inputs::read_file(rt, name, &mut text)?;
-    say_tally(rt, name, compare(table, &text[..n]))
+    say_tally(rt, name, compare(&text[..n], width, differs))
 }
 
 fn tables(rt: &(impl Files + Print)) -> io::Result<()> {
-    report(rt, "opcodes", Table::Opcodes)?;
-    report(rt, "codes", Table::Codes)?;
-    report(rt, "postbytes", Table::Postbytes)?;
-    report(rt, "negatives", Table::Negatives)?;
-    report(rt, "pushes", Table::Pushes)?;
-    report(rt, "lists", Table::Lists)?;
-    report(rt, "capstone", Table::Capstone)
+    report(rt, "opcodes", opcodes::LINE, opcodes::differs)?;
+    report(rt, "codes", codes::LINE, codes::differs)?;
+    report(
+        rt,
+        "postbytes",
+        indexed::LINE,
+        |line| indexed::differs(line, 0x12, 0x34),
+    )?;
+    report(
+        rt,
+        "negatives",
+        indexed::LINE,
+        |line| indexed::differs(line, 0xFE, 0xDC),
+    )?;
+    report(rt, "pushes", pushes::LINE, pushes::differs)?;
+    report(rt, "lists", lists::LINE, lists::differs)?;
+    report(rt, "capstone", capstone::LINE, capstone::differs)
 }
 
 // Of these every damage must be counted.
 fn damaged(rt: &(impl Files + Print)) -> io::Result<()> {
-    report(rt, "damaged/opcodes", Table::Opcodes)?;
-    report(rt, "damaged/codes", Table::Codes)?;
-    report(rt, "damaged/postbytes", Table::Postbytes)?;
-    report(rt, "damaged/negatives", Table::Negatives)?;
-    report(rt, "damaged/pushes", Table::Pushes)?;
-    report(rt, "damaged/lists", Table::Lists)?;
-    report(rt, "damaged/capstone", Table::Capstone)
+    report(rt, "damaged/opcodes", opcodes::LINE, opcodes::differs)?;
+    report(rt, "damaged/codes", codes::LINE, codes::differs)?;
+    report(
+        rt,
+        "damaged/postbytes",
+        indexed::LINE,
+        |line| indexed::differs(line, 0x12, 0x34),
+    )?;
+    report(
+        rt,
+        "damaged/negatives",
+        indexed::LINE,
+        |line| indexed::differs(line, 0xFE, 0xDC),
+    )?;
+    report(rt, "damaged/pushes", pushes::LINE, pushes::differs)?;
+    report(rt, "damaged/lists", lists::LINE, lists::differs)?;
+    report(rt, "damaged/capstone", capstone::LINE, capstone::differs)
 }
 
 fn main(rt: HostRuntime) -> io::Result<()> {

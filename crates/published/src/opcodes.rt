@@ -16,9 +16,9 @@ pub(crate) fn differs(line: &[u8]) -> bool {
     }
     let named = rows::row_of(page as u8, code as u8);
     match named {
-        Named::Is { operation, form } => {
+        Ok(Named { operation, form }) => {
             !((one(line, 6) == form) & (two(line, 8) == operation as u16))
         }
-        Named::Undefined => !is_dash(line, 6),
+        Err(_) => !is_dash(line, 6),
     }
 }

@@ -12,6 +12,7 @@ use lib.ListN.{length, get_or, take, drop, length-append, length-drop, drop_of_l
 use lib.Seq.{drop-drop, drop-length, length-take-le}
 use Rattle.ground.specs.Choice.{pick}
 use Rattle.ground.proofs.Choices.{pick_true, pick_false, by_test, by_pick}
+use Rattle.std.proofs.Common.{Ok}
 use Rattle.records.specs.Text.{Rec}
 use Rattle.records.specs.Runs.{join, runs_of}
 use Rattle.reader.specs.Digits.{bytes_in, behind}
@@ -176,7 +177,7 @@ pub record Handed (text : List ℕ) (at : ℕ) (rs : List Rec) : Type 0 where
   pub run : Rec
   pub later : List Rec
   pub next : ℕ
-  pub answer : run_of text at ≡ record { refusal = 0; address = run.address; bytes = length run.bytes; next = next }
+  pub answer : run_of text at ≡ Ok (record { address = run.address; bytes = length run.bytes; next = next })
   pub bytes : run_bytes text at ≡ run.bytes
   pub runs : runs_of rs ≡ run ∷ runs_of later
   pub rest : records_in (drop next text) ≡ Good later
@@ -215,11 +216,11 @@ module _ (text : List ℕ) (at : ℕ) (r : Rec) (rs : List Rec) (near : too_far 
   run_handed h = handed_by (line_in (drop at text)) refl (line_tail (drop at text)) (line_some (drop at text)) (sym (records_on (drop at text)) ∙ h)
 
 -- where no record is left there is no run, and the reader stays
-none_by : (text : List ℕ) (at : ℕ) (f : Front) → found f records_in ≡ Good [] → begun text at f ≡ record { refusal = 0; address = 0; bytes = 0; next = at }
+none_by : (text : List ℕ) (at : ℕ) (f : Front) → found f records_in ≡ Good [] → begun text at f ≡ Ok (record { address = 0; bytes = 0; next = at })
 none_by text at (Record r t) e = none_more r (records_in t) e
 none_by text at EndRecord e = refl
 none_by text at NoRecord e = not_bad [] e
 
-pub run_none : (text : List ℕ) (at : ℕ) → records_in (drop at text) ≡ Good [] → run_of text at ≡ record { refusal = 0; address = 0; bytes = 0; next = at }
+pub run_none : (text : List ℕ) (at : ℕ) → records_in (drop at text) ≡ Good [] → run_of text at ≡ Ok (record { address = 0; bytes = 0; next = at })
 unfolding run_of
 run_none text at h = none_by text at (line_in (drop at text)) (sym (records_on (drop at text)) ∙ h)

@@ -1,6 +1,6 @@
 -- The reader's answer, and what it hands out: a refusal leaves all that is lent, and what is stored otherwise is the bytes and the rows of the runs.
 -- Assumes nothing.
-use borrow.Author.Tests.{ltb-false, eq-eqb, ne_eqb, not-true}
+use borrow.Author.Tests.{ltb-false, not-true}
 use mathlib.Core.Path.{◌≡◌, refl, sym, ap, ◌∙◌}
 use mathlib.Core.Bool.{Bool, true, false, ◌||◌, false≢true}
 use mathlib.Core.List.{List, [], ◌∷◌}
@@ -9,14 +9,17 @@ use native.Mathlib.Omega.{arith}
 use lib.Dec.{ltb}
 use lib.ListN.{length}
 use Rattle.ground.specs.Stores.{put}
-use Rattle.ground.specs.Refusals.{no_room}
-use Rattle.ground.proofs.Choices.{pick_true, pick_false}
+use Rattle.ground.specs.Choice.{pick}
+use Rattle.std.proofs.Common.{Ok, Err}
+use Rattle.ground.specs.declared.refusals.Refusal.{Refusal}
+use Rattle.ground.specs.declared.refusals.Refusal.TheVariants.{NoRoom}
+use Rattle.ground.proofs.Choices.{pick_false}
 use Rattle.ground.proofs.Tests.{neither_left, neither_right}
 use Rattle.ground.proofs.Stores.{put_front}
 use Rattle.records.specs.Text.{Rec}
 use Rattle.records.specs.Runs.{runs_of}
 use Rattle.reader.specs.Lines.{Found, Good, Bad, records_in}
-use Rattle.reader.specs.Answers.{too_far, bytes_of, rows_of, refused, size_of, room_of, read_of, runs_found, runs_in, handed, onto, ReadIs}
+use Rattle.reader.specs.Answers.{too_far, bytes_of, rows_of, size_of, room_of, read_of, runs_found, runs_in, onto, ReadIs}
 use Rattle.reader.specs.Steps.{rows, records_of, fine, start, StoredIs}
 use Rattle.reader.specs.declared.Read.{Read}
 use Rattle.reader.proofs.Joins.{bytes_runs}
@@ -30,78 +33,57 @@ rows_length [] = refl
 rows_length (r ∷ rs) = omega (arith, rows_length rs)
 
 -- what a text comes to that is not refused
-size_fine : (rs : List Rec) → fine (Good rs) ≡ true
-    → size_of (Good rs) ≡ record { refusal = 0; bytes = length (bytes_of (runs_of rs)); runs = length (runs_of rs) }
-size_fine rs e = pick_false _ _ (not-true (too_far rs) e)
+size_fine : (rs : List Rec) (size : Read) → fine (Good rs) ≡ true → size_of (Good rs) ≡ Ok size
+    → size ≡ record { bytes = length (bytes_of (runs_of rs)); runs = length (runs_of rs) }
+size_fine rs size e q = let p = sym q ∙ pick_false _ _ (not-true (too_far rs) e) in cc
 
-bytes_front : (f : Found) (d : List ℕ) → fine f ≡ true → (size_of f).bytes ≤ length d → put d 0 (bytes_of (records_of f)) ≡ onto (bytes_of (runs_found f)) d
+bytes_front : (f : Found) (size : Read) (d : List ℕ) → fine f ≡ true → size_of f ≡ Ok size → size.bytes ≤ length d
+    → put d 0 (bytes_of (records_of f)) ≡ onto (bytes_of (runs_found f)) d
 unfolding onto
-bytes_front (Good rs) d e h =
-    ap (put d 0) (sym (bytes_runs rs)) ∙ put_front d (bytes_of (runs_of rs)) (omega (arith, ap (λ (r : Read). r.bytes) (size_fine rs e)))
-bytes_front Bad d e h = absurd (false≢true e)
+bytes_front (Good rs) size d e q h =
+    ap (put d 0) (sym (bytes_runs rs)) ∙ put_front d (bytes_of (runs_of rs)) (omega (arith, h, ap (λ (r : Read). r.bytes) (size_fine rs size e q)))
+bytes_front Bad size d e q h = absurd (false≢true e)
 
-rows_front : (f : Found) (t : List ℕ) → fine f ≡ true → (size_of f).runs ≤ length t / 2 → rows start (records_of f) t ≡ onto (rows_of (runs_found f)) t
+rows_front : (f : Found) (size : Read) (t : List ℕ) → fine f ≡ true → size_of f ≡ Ok size → size.runs ≤ length t / 2
+    → rows start (records_of f) t ≡ onto (rows_of (runs_found f)) t
 unfolding onto
-rows_front (Good rs) t e h =
+rows_front (Good rs) size t e q h =
     rows_all rs t
-    ∙ put_front t (rows_of (runs_of rs)) (omega (arith, rows_length (runs_of rs), ap (λ (r : Read). r.runs) (size_fine rs e)))
-rows_front Bad t e h = absurd (false≢true e)
+    ∙ put_front t (rows_of (runs_of rs)) (omega (arith, h, rows_length (runs_of rs), ap (λ (r : Read). r.runs) (size_fine rs size e q)))
+rows_front Bad size t e q h = absurd (false≢true e)
 
-pub fine_text : (text : List ℕ) (size : Read) → size ≡ size_of (records_in text) → size.refusal ≡ 0 → fine (records_in text) ≡ true
-fine_text text size m z = fine_size (records_in text) (sym (ap (λ (x : Read). x.refusal) m) ∙ z)
+pub fine_text : (text : List ℕ) (size : Read) → Ok size ≡ size_of (records_in text) → fine (records_in text) ≡ true
+fine_text text size m = fine_size (records_in text) size (sym m)
 
 module _ (text d t : List ℕ) where
-  abbrev answer : Read
-  answer = read_of text (length d) (length t)
-
-  none_handed : (answer.refusal ≡ 0 → ⊥) → handed answer text ≡ []
-  unfolding handed
-  none_handed n = pick_false _ _ (ne_eqb answer.refusal 0 n)
-
   -- a refusal leaves all
-  left_alone : (r : Read) → r ≡ answer → (r.refusal ≡ 0 → ⊥) → ReadIs text d t r d t
+  left_alone : (e : Refusal) → read_of text (length d) (length t) ≡ Err e → ReadIs text d t (Err e) d t
   unfolding onto
-  left_alone r e n =
-      let none = none_handed (λ z. n (ap (λ (x : Read). x.refusal) e ∙ z)) in
-      record {
-        answer = e;
-        bytes = rw none;
-        rows = rw none;
-      }
+  left_alone e q = record { answer = sym q; bytes = rw q; rows = rw q }
 
-  module _ (size : Read) (m : size ≡ size_of (records_in text)) where
+  pub text_refused : (e : Refusal) → Err e ≡ size_of (records_in text) → ReadIs text d t (Err e) d t
+  unfolding read_of
+  text_refused e m = left_alone e (ap (room_of (length d) (length t)) (sym m))
+
+  module _ (size : Read) (m : Ok size ≡ size_of (records_in text)) where
     abbrev short : Bool
     short = ltb (length d) size.bytes || ltb (length t / 2) size.runs
 
-    pub no_room_lem : (r : Read) → r ≡ refused no_room → short ≡ true → ReadIs text d t r d t
-    unfolding read_of room_of
-    no_room_lem r e s =
-        left_alone r (e ∙ sym (rw (← m) (pick_true _ _ s)))
-        (λ z. let no : ◌≡◌ {A = ℕ} 9 0 = sym (ap (λ (x : Read). x.refusal) e) ∙ z in omega arith)
+    answer : (b : Bool) → short ≡ b → read_of text (length d) (length t) ≡ pick b (Err NoRoom) (Ok size)
+    unfolding read_of
+    answer b s = ap (room_of (length d) (length t)) (sym m) ∙ rw s
 
-    fits_answer : short ≡ false → size ≡ answer
-    unfolding read_of room_of
-    fits_answer s = sym (rw (← m) (pick_false _ _ s))
+    pub no_room_lem : short ≡ true → ReadIs text d t (Err NoRoom) d t
+    unfolding pick
+    no_room_lem s = left_alone NoRoom (answer true s)
 
-    pub text_refused : short ≡ false → (size.refusal ≡ 0 → ⊥) → ReadIs text d t size d t
-    text_refused s n = left_alone size (fits_answer s) n
-
-    all_handed : short ≡ false → size.refusal ≡ 0 → handed answer text ≡ runs_found (records_in text)
-    unfolding handed runs_in
-    all_handed s z = pick_true _ _ (eq-eqb answer.refusal 0 (sym (ap (λ (x : Read). x.refusal) (fits_answer s)) ∙ z))
-
-    pub text_read : (d' t' : List ℕ) → short ≡ false → size.refusal ≡ 0 → StoredIs text d t d' t' → ReadIs text d t size d' t'
-    text_read d' t' s z w =
+    pub text_read : (d' t' : List ℕ) → short ≡ false → StoredIs text d t d' t' → ReadIs text d t (Ok size) d' t'
+    unfolding pick runs_in
+    text_read d' t' s w =
         let b = either_false (ltb (length d) size.bytes) (ltb (length t / 2) size.runs) s in
-        let all = all_handed s z in
+        let a = answer false s in
         record {
-          answer = fits_answer s;
-          bytes =
-              w.bytes
-              ∙ bytes_front (records_in text) d (fine_text text size m z) (omega (arith, ltb-false (length d) size.bytes b.0, ap (λ (x : Read). x.bytes) m))
-              ∙ ap (λ (rs : List Rec). onto (bytes_of rs) d) (sym all);
-          rows =
-              w.rows
-              ∙ rows_front (records_in text) t (fine_text text size m z) (omega (arith, ltb-false (length t / 2) size.runs b.1, ap (λ (x : Read). x.runs) m))
-              ∙ ap (λ (rs : List Rec). onto (rows_of rs) t) (sym all);
+          answer = sym a;
+          bytes = w.bytes ∙ bytes_front (records_in text) size d (fine_text text size m) (sym m) (ltb-false (length d) size.bytes b.0) ∙ rw a;
+          rows = w.rows ∙ rows_front (records_in text) size t (fine_text text size m) (sym m) (ltb-false (length t / 2) size.runs b.1) ∙ rw a;
         }

@@ -9,6 +9,7 @@ use native.Mathlib.Omega.{arith}
 use lib.Dec.{ltb, eqb, eqb→eq}
 use lib.ListN.{length, length-append}
 use lib.Seq.{drop_at, take-append_seam}
+use Rattle.std.proofs.Common.{Some}
 use Rattle.ground.specs.Choice.{pick}
 use Rattle.ground.proofs.Choices.{pick_true}
 use Rattle.ground.proofs.Ranges.{below}
@@ -27,17 +28,16 @@ digit_back : (n : ℕ) → n < 16 → digit_of (hex_of n) ≡ n
 unfolding digit_of hex_of pick
 digit_back n h = eqb→eq (digit_of (hex_of n)) n (below (λ (k : ℕ). eqb (digit_of (hex_of k)) k) 16 tt n h)
 
-pair_back : (b : ℕ) → b < 256 → pair_of (hex_of (b / 16)) (hex_of (b % 16)) ≡ b
+pair_back : (b : ℕ) → b < 256 → pair_of (hex_of (b / 16)) (hex_of (b % 16)) ≡ Some b
 unfolding pair_of pick
 pair_back b h =
     rw
     (digit_back (b / 16) (omega arith), digit_back (b % 16) (omega arith), lt-ltb (b / 16) 16 (omega arith), lt-ltb (b % 16) 16 (omega arith))
-    (omega arith)
+    (let e : 16 * (b / 16) + b % 16 ≡ b = omega arith in ap Some e)
 
 bytes_back : (bs r : List ℕ) → Bytes bs → bytes_in (hexes bs ++ r) ≡ bs ++ bytes_in r
-unfolding pick
 bytes_back [] r w = refl
-bytes_back (b ∷ bs) r w = rw (pair_back b w.0, lt-ltb b 256 w.0, bytes_back bs r w.1)
+bytes_back (b ∷ bs) r w = rw (pair_back b w.0, bytes_back bs r w.1)
 
 -- a line feed is no digit
 feed_none : (r : List ℕ) → bytes_in (10 ∷ r) ≡ []

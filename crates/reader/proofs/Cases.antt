@@ -4,12 +4,15 @@ use mathlib.Core.Path.{◌≡◌, refl}
 use mathlib.Core.List.{List, [], ◌∷◌, ◌++◌, map}
 use Prim.Native.Nat.{ℕ}
 use lib.ListN.{set}
+use Rattle.std.proofs.Common.{Result, Ok, Err}
+use Rattle.ground.specs.declared.refusals.Refusal.{Refusal}
+use Rattle.ground.specs.declared.refusals.Refusal.TheVariants.{BrokenText, Beyond, NoRoom}
 use Rattle.ground.specs.Choice.{pick}
 use Rattle.records.specs.Hex.{hex_of}
 use Rattle.records.specs.Line.{check_of, body, line}
 use Rattle.reader.specs.Digits.{digit_of, pair_of, behind}
 use Rattle.reader.specs.Lines.{count_of, address_of, type_of, data_of, sound, ends_line, after_end, record_of, line_in, records_in}
-use Rattle.reader.specs.Answers.{refused, room_of, read_of, runs_in}
+use Rattle.reader.specs.Answers.{read_of, runs_in}
 use Rattle.reader.specs.Twins.{lower}
 use Rattle.reader.specs.declared.Read.{Read}
 
@@ -35,16 +38,16 @@ unfolding runs_in records_in line_in record_of sound ends_line after_end behind 
 first_runs = refl
 
 -- 9 where a byte or a row has no room
-pub no_room_lem : (read_of first 2 2 ≡ refused 9) × (read_of first 3 1 ≡ refused 9)
-unfolding read_of room_of records_in line_in record_of sound ends_line after_end behind count_of address_of type_of data_of pair_of digit_of lower line body check_of hex_of pick
+pub no_room_lem : (read_of first 2 2 ≡ Err NoRoom) × (read_of first 3 1 ≡ Err NoRoom)
+unfolding read_of records_in line_in record_of sound ends_line after_end behind count_of address_of type_of data_of pair_of digit_of lower line body check_of hex_of pick
 no_room_lem = (refl, refl)
 
 -- answers where there is room for eight bytes and two runs
-abbrev pub ask : List ℕ → Read
+abbrev pub ask : List ℕ → Result Read Refusal
 ask text = read_of text 8 4
 
-abbrev pub three : Read
-three = record { refusal = 0; bytes = 3; runs = 1 }
+abbrev pub three : Result Read Refusal
+three = Ok (record { bytes = 3; runs = 1 })
 
 -- texts that hold one run of three bytes: the last line end missing, lower case and CR LF, two records that follow on
 pub one_run :
@@ -55,14 +58,14 @@ pub one_run :
     ∷ (line 0 256 (1 ∷ 2 ∷ []) ++ line 0 258 (3 ∷ []) ++ end)
     ∷ [])
     ≡ three ∷ three ∷ three ∷ three ∷ []
-unfolding read_of room_of records_in line_in record_of sound ends_line after_end behind count_of address_of type_of data_of pair_of digit_of lower line body check_of hex_of pick
+unfolding read_of records_in line_in record_of sound ends_line after_end behind count_of address_of type_of data_of pair_of digit_of lower line body check_of hex_of pick
 one_run = refl
 
 -- no run; two runs, for no byte comes after 65535; and a byte beyond 65535
 pub other_runs :
     map ask (end ∷ (line 0 65535 (1 ∷ []) ++ line 0 0 (2 ∷ []) ++ end) ∷ (line 0 65535 (1 ∷ 2 ∷ []) ++ end) ∷ [])
-    ≡ record { refusal = 0; bytes = 0; runs = 0 } ∷ record { refusal = 0; bytes = 2; runs = 2 } ∷ refused 18 ∷ []
-unfolding read_of room_of records_in line_in record_of sound ends_line after_end behind count_of address_of type_of data_of pair_of digit_of lower line body check_of hex_of pick
+    ≡ Ok (record { bytes = 0; runs = 0 }) ∷ Ok (record { bytes = 2; runs = 2 }) ∷ Err Beyond ∷ []
+unfolding read_of records_in line_in record_of sound ends_line after_end behind count_of address_of type_of data_of pair_of digit_of lower line body check_of hex_of pick
 other_runs = refl
 
 -- broken texts
@@ -94,6 +97,6 @@ broken =
     ∷ (code ++ end)
     ∷ []
 
-pub broken_refused : map ask broken ≡ map (λ _. refused 16) broken
-unfolding read_of room_of records_in line_in record_of sound ends_line after_end behind count_of address_of type_of data_of pair_of digit_of lower line body check_of hex_of pick
+pub broken_refused : map ask broken ≡ map (λ _. Err BrokenText) broken
+unfolding read_of records_in line_in record_of sound ends_line after_end behind count_of address_of type_of data_of pair_of digit_of lower line body check_of hex_of pick
 broken_refused = refl

@@ -7,6 +7,7 @@ use mathlib.Core.List.{List, [], ◌∷◌}
 use Prim.Native.Nat.{ℕ, ◌+◌, ◌/◌, ◌≤◌}
 use native.Mathlib.Omega.{arith}
 use lib.ListN.{length}
+use Rattle.std.proofs.Common.{Ok}
 use Rattle.ground.proofs.Choices.{pick_false}
 use Rattle.records.specs.Objects.{Object, With, objects_of, faulty}
 use Rattle.records.specs.Objects as written
@@ -46,13 +47,13 @@ module _ (os : List Object) (fine : Each Fine (recs os)) where
   runs_back = ap runs_found records_back ∙ runs_of_recs os
 
   abbrev all : Read
-  all = record { refusal = 0; bytes = length (bytes_of (runs_of (pieces os))); runs = length (runs_of (pieces os)) }
+  all = record { bytes = length (bytes_of (runs_of (pieces os))); runs = length (runs_of (pieces os)) }
 
-  size_back : size_of (records_in (text (recs os))) ≡ all
+  size_back : size_of (records_in (text (recs os))) ≡ Ok all
   size_back = ap size_of records_back ∙ pick_false _ _ (none_far (recs os) fine) ∙ rw (runs_of_recs os)
 
-  answer_back : (room cells : ℕ) → all.bytes ≤ room → all.runs ≤ cells / 2 → read_of (text (recs os)) room cells ≡ all
-  unfolding read_of room_of
+  answer_back : (room cells : ℕ) → all.bytes ≤ room → all.runs ≤ cells / 2 → read_of (text (recs os)) room cells ≡ Ok all
+  unfolding read_of
   answer_back room cells h k = ap (room_of room cells) size_back ∙ pick_false _ _ (rw (le-ltb room all.bytes h, le-ltb (cells / 2) all.runs k))
 
 -- any objects with no byte beyond 65535: the runs are those of the objects that have bytes, and where there is room for them they are handed out
@@ -63,7 +64,7 @@ module _ (os : List Object) (sound : Each Sound os) (near : written.too_far os �
   pub written_answers :
       (room cells : ℕ) → length (bytes_of (runs_of (pieces os))) ≤ room → length (runs_of (pieces os)) ≤ cells / 2
       → read_of (text (recs os)) room cells
-      ≡ record { refusal = 0; bytes = length (bytes_of (runs_of (pieces os))); runs = length (runs_of (pieces os)) }
+      ≡ Ok (record { bytes = length (bytes_of (runs_of (pieces os))); runs = length (runs_of (pieces os)) })
   written_answers = answer_back os (recs_fine os sound near)
 
 -- the same of the tables of objects and values that the writer does not refuse

@@ -9,21 +9,23 @@ use native.Mathlib.Omega.{arith}
 use lib.Dec.{eqb}
 use lib.ListN.{length, take, drop, length-drop, length-append, drop_of_length-le}
 use Rattle.ground.specs.Choice.{pick}
-use Rattle.ground.specs.Refusals.{broken_text, beyond}
 use Rattle.ground.proofs.Choices.{pick_true, pick_false}
 use Rattle.ground.specs.Stores.{put}
 use Rattle.ground.proofs.Stores.{put_length, put_append}
 use Rattle.records.specs.Text.{Rec}
 use Rattle.reader.specs.Digits.{bytes_in}
 use Rattle.reader.specs.Lines.{Front, Record, EndRecord, NoRecord, line_in}
-use Rattle.reader.specs.Steps.{meant, LineIs, Reached, RunIs, ran_bytes}
-use Rattle.reader.specs.Ahead.{Ahead, goes_on, follow, follow_in, refused_run, handed_run, begun, run_of}
+use Rattle.reader.specs.Steps.{meant, LineIs, OnIs, Reached, RunIs, ran_bytes}
+use Rattle.reader.specs.Ahead.{Ahead, goes_on, follow, follow_in, handed_run, begun, run_of}
 use Rattle.reader.specs.declared.runs.Run.{Run}
 use Rattle.reader.specs.declared.runs.Stretch.{Stretch}
 use Rattle.reader.specs.declared.Line.{Line}
-use Rattle.reader.specs.declared.Line.TheVariants.{Data, End, Broken}
+use Rattle.std.proofs.Common.{Option, Some, None}
+use Rattle.std.proofs.Common.{Result, Ok, Err}
+use Rattle.ground.specs.declared.refusals.Refusal.{Refusal}
+use Rattle.ground.specs.declared.refusals.Refusal.TheVariants.{BrokenText, Beyond}
 use Rattle.reader.proofs.Records.{Shorter, line_short}
-use Rattle.reader.proofs.Tallies.{one, size_here, fits_here}
+use Rattle.reader.proofs.Tallies.{one, size_here}
 use Rattle.records.proofs.Joins.{after, glue}
 
 same_going : (n : ℕ) (p : Rec) (s : List ℕ) (f : Front) (x y : Rec → List ℕ → Ahead) → Shorter n f
@@ -60,50 +62,48 @@ pub going_first : (s : List ℕ) (from end : ℕ) (p : Rec) → after p ≡ end 
 going_first s from end p e = record { run = p; same = refl; place = refl; ended = sym e }
 
 -- by the line that stands there
-module _ (s : List ℕ) (from : ℕ) (p : Rec) (end at : ℕ) (g : Going s from p end at) (l : Line) (w : LineIs s at l) where
-  abbrev stopped : Ahead
-  stopped = record { run = g.run; rest = drop at s }
+line_goes : {s : List ℕ} {at : ℕ} (r : Result (Option Line) Refusal) → LineIs s at r → (p : Rec) → follow_in p (drop at s) ≡ goes_on p (drop at s) (meant s r) follow_in
+line_goes {s} {at} r w p = follow_on p (drop at s) ∙ ap (λ (f : Front). goes_on p (drop at s) f follow_in) w.says
 
-  here : (m : Line) → l ≡ m → follow_in g.run (drop at s) ≡ goes_on g.run (drop at s) (meant s m) follow_in
-  here m e = follow_on g.run (drop at s) ∙ rw (w.says, e)
+module _ (s : List ℕ) (at reached : ℕ) where
+  -- no data line, or one at another address
+  pub no_line_on : LineIs s at (Ok None) → OnIs s at reached None
+  no_line_on w p e = line_goes (Ok None) w p
 
-  stops : follow_in g.run (drop at s) ≡ stopped → Reached s from p (record { end = end; next = at })
-  stops e =
-      let q = sym g.same ∙ e in
+  pub broken_on : (x : Refusal) → LineIs s at (Err x) → OnIs s at reached None
+  broken_on x w p e = line_goes (Err x) w p
+
+  pub line_off : (l : Line) → LineIs s at (Ok (Some l)) → (l.address ≡ reached → ⊥) → OnIs s at reached None
+  line_off l w n p e = line_goes (Ok (Some l)) w p ∙ pick_false _ _ (ne_eqb l.address (after p) (λ z. n (z ∙ e)))
+
+module _ (s : List ℕ) (from : ℕ) (p : Rec) (end at : ℕ) (g : Going s from p end at) where
+  pub stops : OnIs s at end None → Reached s from p (record { end = end; next = at })
+  stops n =
+      let q = sym g.same ∙ n g.run (sym g.ended) in
       record {
         place = ap (λ (a : Ahead). a.run.address) q ∙ g.place;
         ended = g.ended ∙ sym (ap (λ (a : Ahead). after a.run) q);
         rest = ap (λ (a : Ahead). a.rest) q;
       }
 
-  pub stops_end : l ≡ End → Reached s from p (record { end = end; next = at })
-  stops_end e = stops (here End e)
-
-  pub stops_broken : l ≡ Broken → Reached s from p (record { end = end; next = at })
-  stops_broken e = stops (here Broken e)
-
-  module _ (a f n x : ℕ) (e : l ≡ Data a f n x) where
-    pub stops_off : (a ≡ end → ⊥) → Reached s from p (record { end = end; next = at })
-    stops_off m = stops (here (Data a f n x) e ∙ pick_false _ _ (ne_eqb a (after g.run) (λ z. m (z ∙ sym g.ended))))
-
-    pub goes_on_lem : a ≡ end → Going s from p (end + n) x
-    goes_on_lem q =
-        let r = one s at l w a f n x e in
-        record {
-          run = glue g.run r;
-          same = sym (here (Data a f n x) e ∙ pick_true _ _ (eq-eqb a (after g.run) (q ∙ g.ended))) ∙ g.same;
-          place = g.place;
-          ended = omega (arith, g.ended, length-append g.run.bytes r.bytes, size_here s at l w a f n x e);
-        }
+  pub goes_on_lem : (l : Line) → OnIs s at end (Some l) → Going s from p (end + l.count) l.next
+  goes_on_lem l w =
+      let r = one s at l w.0 in
+      record {
+        run = glue g.run r;
+        same = sym (line_goes (Ok (Some l)) w.0 g.run ∙ pick_true _ _ (eq-eqb l.address (after g.run) (w.1 ∙ g.ended))) ∙ g.same;
+        place = g.place;
+        ended = omega (arith, g.ended, length-append g.run.bytes r.bytes, size_here s at l w.0);
+      }
 
 -- the run that a stretch comes to
 module _ (text : List ℕ) (at address : ℕ) (p : Rec) (t : Stretch) (r : Reached text at p t) (e : p.address ≡ address) where
-  pub far_run : 65536 < t.end → refused_run beyond ≡ handed_run text (follow_in p (drop at text))
+  pub far_run : 65536 < t.end → Err Beyond ≡ handed_run text (follow_in p (drop at text))
   unfolding handed_run
   far_run h = sym (pick_true _ _ (lt-ltb 65536 (after (follow_in p (drop at text)).run) (omega (arith, r.ended, h))))
 
   pub near_run : t.end ≤ 65536 → t.next ≤ length text
-      → record { refusal = 0; address = address; bytes = t.end - address; next = t.next } ≡ handed_run text (follow_in p (drop at text))
+      → Ok (record { address = address; bytes = t.end - address; next = t.next }) ≡ handed_run text (follow_in p (drop at text))
   unfolding handed_run
   near_run h k =
       let a = follow_in p (drop at text) in
@@ -113,23 +113,23 @@ module _ (text : List ℕ) (at address : ℕ) (p : Rec) (t : Stretch) (r : Reach
       sym (pick_false _ _ (le-ltb 65536 (after a.run) (omega (arith, r.ended, h))) ∙ rw (i, j, b))
 
 -- the run at a place, by the line that stands there
-pub run_past : (text : List ℕ) (at : ℕ) → length text < at → refused_run broken_text ≡ run_of text at
+pub run_past : (text : List ℕ) (at : ℕ) → length text < at → Err BrokenText ≡ run_of text at
 unfolding run_of line_in
 run_past text at h = let none : drop at text ≡ [] = drop_of_length-le text {i = at} (omega arith) in rw none
 
-module _ (text : List ℕ) (at : ℕ) (l : Line) (w : LineIs text at l) where
-  run_by : (m : Line) → l ≡ m → run_of text at ≡ begun text at (meant text m)
+module _ (text : List ℕ) (at : ℕ) where
+  run_by : (r : Result (Option Line) Refusal) → LineIs text at r → run_of text at ≡ begun text at (meant text r)
   unfolding run_of
-  run_by m e = rw (w.says, e)
+  run_by r w = rw w.says
 
-  pub run_end : l ≡ End → record { refusal = 0; address = 0; bytes = 0; next = at } ≡ run_of text at
-  run_end e = sym (run_by End e)
+  pub run_end : LineIs text at (Ok None) → Ok (record { address = 0; bytes = 0; next = at }) ≡ run_of text at
+  run_end w = sym (run_by (Ok None) w)
 
-  pub run_broken : l ≡ Broken → refused_run broken_text ≡ run_of text at
-  run_broken e = sym (run_by Broken e)
+  pub run_broken : (e : Refusal) → LineIs text at (Err e) → Err e ≡ run_of text at
+  run_broken e w = ap (λ (x : Refusal). Err x) w.fits ∙ sym (run_by (Err e) w)
 
-  pub run_data : (a f n x : ℕ) (r : Run) → l ≡ Data a f n x → RunIs text a n x r → r ≡ run_of text at
-  run_data a f n x r e i = i.each (one text at l w a f n x e) refl (size_here text at l w a f n x e) ∙ sym (run_by (Data a f n x) e)
+  pub run_data : (l : Line) (r : Result Run Refusal) → LineIs text at (Ok (Some l)) → RunIs text l r → r ≡ run_of text at
+  run_data l r w i = i.each (one text at l w) refl (size_here text at l w) ∙ sym (run_by (Ok (Some l)) w)
 
 -- a run whose bytes so far are stored
 pub record Filling (s : List ℕ) (from first : ℕ) (d : List ℕ) (end at : ℕ) (d' : List ℕ) : Type 0 where
@@ -147,37 +147,23 @@ filling_begun v = omega (arith, v.going.place, v.going.ended)
 pub filling_room : {s : List ℕ} {from first : ℕ} {d : List ℕ} {end at : ℕ} {d' : List ℕ} → Filling s from first d end at d' → length d' ≡ length d
 filling_room {d = d} v = ap length v.stored ∙ put_length d 0 v.going.run.bytes
 
-module _ (s : List ℕ) (from first : ℕ) (d : List ℕ) (end at : ℕ) (d' : List ℕ) (v : Filling s from first d end at d') (l : Line) (w : LineIs s at l) where
-  abbrev p : Rec
-  p = record { address = first; bytes = [] }
-
-  ran : follow_in v.going.run (drop at s) ≡ record { run = v.going.run; rest = drop at s } → d' ≡ put d 0 (ran_bytes first (drop from s))
+module _ (s : List ℕ) (from first : ℕ) (d : List ℕ) (end at : ℕ) (d' : List ℕ) (v : Filling s from first d end at d') where
+  pub filled : OnIs s at end None → d' ≡ put d 0 (ran_bytes first (drop from s))
   unfolding ran_bytes
-  ran e = v.stored ∙ ap (λ (a : Ahead). put d 0 a.run.bytes) (sym e ∙ v.going.same)
+  filled n = v.stored ∙ ap (λ (a : Ahead). put d 0 a.run.bytes) (sym (n v.going.run (sym v.going.ended)) ∙ v.going.same)
 
-  pub filled_end : l ≡ End → d' ≡ put d 0 (ran_bytes first (drop from s))
-  filled_end e = ran (here s from p end at v.going l w End e)
-
-  pub filled_broken : l ≡ Broken → d' ≡ put d 0 (ran_bytes first (drop from s))
-  filled_broken e = ran (here s from p end at v.going l w Broken e)
-
-  module _ (a f n x : ℕ) (e : l ≡ Data a f n x) where
-    pub filled_off : (a ≡ end → ⊥) → d' ≡ put d 0 (ran_bytes first (drop from s))
-    filled_off m =
-        ran (here s from p end at v.going l w (Data a f n x) e ∙ pick_false _ _ (ne_eqb a (after v.going.run) (λ z. m (z ∙ sym v.going.ended))))
-
-    pub filling_on : (d'' : List ℕ) → a ≡ end → d'' ≡ put d' (end - first) (take n (bytes_in (drop f s))) → Filling s from first d (end + n) x d''
-    unfolding goes_on_lem
-    filling_on d'' q b =
-        let run = v.going.run in
-        let bs = take n (bytes_in (drop f s)) in
-        let k : end - first ≡ 0 + length run.bytes = omega (arith, v.going.place, v.going.ended) in
-        record {
-          going = goes_on_lem s from p end at v.going l w a f n x e q;
-          stored =
-              b
-              ∙ ap (λ (i : ℕ). put d' i bs) k
-              ∙ ap (λ (y : List ℕ). put y (0 + length run.bytes) bs) v.stored
-              ∙ sym (put_append d 0 run.bytes bs);
-          within = (fits_here s at l w a f n x e).within;
-        }
+  pub filling_on : (l : Line) (d'' : List ℕ) → OnIs s at end (Some l) → d'' ≡ put d' (end - first) (take l.count (bytes_in (drop l.first s))) → Filling s from first d (end + l.count) l.next d''
+  unfolding goes_on_lem
+  filling_on l d'' w b =
+      let run = v.going.run in
+      let bs = take l.count (bytes_in (drop l.first s)) in
+      let k : end - first ≡ 0 + length run.bytes = omega (arith, v.going.place, v.going.ended) in
+      record {
+        going = goes_on_lem s from (record { address = first; bytes = [] }) end at v.going l w;
+        stored =
+            b
+            ∙ ap (λ (i : ℕ). put d' i bs) k
+            ∙ ap (λ (y : List ℕ). put y (0 + length run.bytes) bs) v.stored
+            ∙ sym (put_append d 0 run.bytes bs);
+        within = w.0.fits.within;
+      }

@@ -19,11 +19,13 @@ use Rattle.records.specs.Runs.{runs_of}
 use Rattle.reader.specs.Digits.{bytes_in}
 use Rattle.reader.specs.Lines.{Front, Record, EndRecord, NoRecord, line_in, Found, Good, Bad, more, found, records_in}
 use Rattle.reader.specs.Answers.{too_far, bytes_of, rows_of, size_of}
-use Rattle.reader.specs.Steps.{meant, DataFits, Fits, is_line, LineIs, begins, runs_with, counted, counts, total, totalled, rowed, rows, records_of, fine, start, StoredIs}
+use Rattle.reader.specs.Steps.{meant, is_line, LineIs, begins, runs_with, counted, counts, total, totalled, rowed, rows, records_of, fine, start, StoredIs}
 use Rattle.reader.specs.declared.Read.{Read}
 use Rattle.reader.specs.declared.Tally.{Tally}
 use Rattle.reader.specs.declared.Line.{Line}
-use Rattle.reader.specs.declared.Line.TheVariants.{Data, End, Broken}
+use Rattle.std.proofs.Common.{Option, Some, None}
+use Rattle.std.proofs.Common.{Result, Ok, Err}
+use Rattle.ground.specs.declared.refusals.Refusal.{Refusal}
 use Rattle.reader.proofs.Records.{records_on}
 use Rattle.records.proofs.Joins.{after}
 use Rattle.reader.proofs.Joins.{begun, runs_begun, bytes_runs, rows_from, rows_from_lem}
@@ -39,43 +41,43 @@ unfolding runs_with
 runs_grow t a = by_pick (λ (n : ℕ). n ≤ t.runs + 1) (begins t a) (omega arith) (omega arith)
 
 -- the records from a place on, by the line that stands there
-module _ (s : List ℕ) (at : ℕ) (l : Line) (w : LineIs s at l) where
-  here : (m : Line) → l ≡ m → records_in (drop at s) ≡ found (meant s m) records_in
-  here m e = records_on (drop at s) ∙ rw (w.says, e)
+line_here : {s : List ℕ} {at : ℕ} (r : Result (Option Line) Refusal) → LineIs s at r → records_in (drop at s) ≡ found (meant s r) records_in
+line_here {s} {at} r w = records_on (drop at s) ∙ ap (λ (f : Front). found f records_in) w.says
 
-  pub end_here : l ≡ End → records_in (drop at s) ≡ Good []
-  end_here e = here End e
+pub end_here : {s : List ℕ} {at : ℕ} → LineIs s at (Ok None) → records_in (drop at s) ≡ Good []
+end_here w = line_here (Ok None) w
 
-  pub broken_here : l ≡ Broken → records_in (drop at s) ≡ Bad
-  broken_here e = here Broken e
+pub broken_here : {s : List ℕ} {at : ℕ} (e : Refusal) → LineIs s at (Err e) → records_in (drop at s) ≡ Bad
+broken_here e w = line_here (Err e) w
 
-  module _ (a f n x : ℕ) (e : l ≡ Data a f n x) where
-    pub fits_here : DataFits s at f n x
-    fits_here = subst (Fits s at) e w.fits
+module _ (s : List ℕ) (at : ℕ) (l : Line) (w : LineIs s at (Ok (Some l))) where
+  abbrev pub one : Rec
+  one = record { address = l.address; bytes = take l.count (bytes_in (drop l.first s)) }
 
-    abbrev pub one : Rec
-    one = record { address = a; bytes = take n (bytes_in (drop f s)) }
+  pub data_here : records_in (drop at s) ≡ more one (records_in (drop l.next s))
+  data_here = line_here (Ok (Some l)) w
 
-    pub data_here : records_in (drop at s) ≡ more one (records_in (drop x s))
-    data_here = here (Data a f n x) e
+  pub size_here : length one.bytes ≡ l.count
+  size_here = length-take-le l.count (bytes_in (drop l.first s)) w.fits.there
 
-    pub size_here : length one.bytes ≡ n
-    size_here = length-take-le n (bytes_in (drop f s)) fits_here.there
+  pub walk_on : (t r : Tally) → Walked s at t → r ≡ counted t l.address l.count → Walked s l.next r
+  unfolding counted
+  walk_on t r v q = subst (Walked s l.next) (sym q) (record {
+    within = w.fits.within;
+    bytes = omega (arith, v.bytes, w.fits.long);
+    runs = omega (arith, v.runs, runs_grow t l.address, w.fits.some, w.fits.long);
+  })
 
-    pub walk_on : (t r : Tally) → Walked s at t → r ≡ counted t a n → Walked s x r
-    unfolding counted
-    walk_on t r v q = subst (Walked s x) (sym q) (record {
-      within = fits_here.within;
-      bytes = omega (arith, v.bytes, fits_here.long);
-      runs = omega (arith, v.runs, runs_grow t a, fits_here.some, fits_here.long);
-    })
-
-    pub total_on : (t : Tally) → totalled (counted t a n) (records_in (drop x s)) ≡ totalled t (records_in (drop at s))
-    total_on t = sym (ap (totalled t) data_here ∙ total_more t one (records_in (drop x s)) ∙ ap (λ (k : ℕ). totalled (counted t a k) (records_in (drop x s))) size_here)
-      where
-        total_more : (t : Tally) (r : Rec) (g : Found) → totalled t (more r g) ≡ totalled (counted t r.address (length r.bytes)) g
-        total_more t r (Good rs) = refl
-        total_more t r Bad = refl
+  pub total_on : (t : Tally) → totalled (counted t l.address l.count) (records_in (drop l.next s)) ≡ totalled t (records_in (drop at s))
+  total_on t =
+      sym
+      (ap (totalled t) data_here
+      ∙ total_more t one (records_in (drop l.next s))
+      ∙ ap (λ (k : ℕ). totalled (counted t l.address k) (records_in (drop l.next s))) size_here)
+    where
+      total_more : (t : Tally) (r : Rec) (g : Found) → totalled t (more r g) ≡ totalled (counted t r.address (length r.bytes)) g
+      total_more t r (Good rs) = refl
+      total_more t r Bad = refl
 
 -- the whole
 bytes_counted : (rs : List Rec) (t : Tally) → (counts t rs).bytes ≡ t.bytes + length (bytes_of rs)
@@ -222,13 +224,13 @@ records_more : (r : Rec) (g : Found) → fine (more r g) ≡ true → records_of
 records_more r (Good rs) e = refl
 records_more r Bad e = absurd (false≢true e)
 
-pub fine_size : (f : Found) → (size_of f).refusal ≡ 0 → fine f ≡ true
-fine_size (Good rs) e = by_cases (too_far rs) refl e
+pub fine_size : (f : Found) (size : Read) → size_of f ≡ Ok size → fine f ≡ true
+fine_size (Good rs) size e = by_cases (too_far rs) refl e
   where
-    by_cases : (b : Bool) → too_far rs ≡ b → (size_of (Good rs)).refusal ≡ 0 → not (too_far rs) ≡ true
-    by_cases true q f = let z : ◌≡◌ {A = ℕ} 18 0 = sym (ap (λ (r : Read). r.refusal) (pick_true _ _ q)) ∙ f in let n : ⊥ = omega arith in absurd n
+    by_cases : (b : Bool) → too_far rs ≡ b → size_of (Good rs) ≡ Ok size → not (too_far rs) ≡ true
+    by_cases true q f = absurd (cc (sym (pick_true _ _ q) ∙ f))
     by_cases false q f = rw q
-fine_size Bad e = let z : ◌≡◌ {A = ℕ} 16 0 = e in let n : ⊥ = omega arith in absurd n
+fine_size Bad size e = absurd (cc)
 
 -- a text that may be stored begins with a line
 pub fine_line : (s : List ℕ) → fine (records_in s) ≡ true → is_line (line_in s) ≡ true
@@ -259,51 +261,49 @@ store_first s d t e = record {
   cells = refl;
 }
 
-module _ (s d t : List ℕ) (at : ℕ) (k : Tally) (d' t' : List ℕ) (l : Line) (w : LineIs s at l) (v : Storing s d t at k d' t') where
-  pub store_end : l ≡ End → StoredIs s d t d' t'
-  store_end e =
-      let none = end_here s at l w e in
+module _ (s d t : List ℕ) (at : ℕ) (k : Tally) (d' t' : List ℕ) (v : Storing s d t at k d' t') where
+  -- nothing is left
+  pub store_last : LineIs s at (Ok None) → StoredIs s d t d' t'
+  store_last w =
+      let none = end_here w in
       record {
         bytes = ap (λ (f : Found). put d' k.bytes (bytes_of (records_of f))) (sym none) ∙ v.bytes;
         rows = ap (λ (f : Found). rows k (records_of f) t') (sym none) ∙ v.row;
       }
 
-  pub store_broken : l ≡ Broken → StoredIs s d t d' t'
-  store_broken e = absurd (false≢true (sym (ap fine (broken_here s at l w e)) ∙ v.right))
+  module _ (l : Line) (w : LineIs s at (Ok (Some l))) where
+    right_here : fine (more (one s at l w) (records_in (drop l.next s))) ≡ true
+    right_here = sym (ap fine (data_here s at l w)) ∙ v.right
 
-  module _ (a f n x : ℕ) (e : l ≡ Data a f n x) where
-    right_here : fine (more (one s at l w a f n x e) (records_in (drop x s))) ≡ true
-    right_here = sym (ap fine (data_here s at l w a f n x e)) ∙ v.right
+    split : records_of (records_in (drop at s)) ≡ one s at l w ∷ records_of (records_in (drop l.next s))
+    split = ap records_of (data_here s at l w) ∙ records_more (one s at l w) (records_in (drop l.next s)) right_here
 
-    split : records_of (records_in (drop at s)) ≡ one s at l w a f n x e ∷ records_of (records_in (drop x s))
-    split = ap records_of (data_here s at l w a f n x e) ∙ records_more (one s at l w a f n x e) (records_in (drop x s)) right_here
+    pub store_room : l.address + l.count ≤ 65536
+    store_room = omega (arith, ltb-false 65536 (after (one s at l w)) (fine_more (one s at l w) (records_in (drop l.next s)) right_here).0, size_here s at l w)
 
-    pub store_room : a + n ≤ 65536
-    store_room = omega (arith, ltb-false 65536 (after (one s at l w a f n x e)) (fine_more (one s at l w a f n x e) (records_in (drop x s)) right_here).0, size_here s at l w a f n x e)
-
-    pub store_on : (k' : Tally) (d'' t'' : List ℕ) → d'' ≡ put d' k.bytes (take n (bytes_in (drop f s))) → t'' ≡ rowed k a n t' → k' ≡ counted k a n
-        → Storing s d t x k' d'' t''
+    pub store_on : (k' : Tally) (d'' t'' : List ℕ) → d'' ≡ put d' k.bytes (take l.count (bytes_in (drop l.first s))) → t'' ≡ rowed k l.address l.count t'
+        → k' ≡ counted k l.address l.count → Storing s d t l.next k' d'' t''
     unfolding counted
     store_on k' d'' t'' p q r =
-        let rest = records_of (records_in (drop x s)) in
-        let bs = take n (bytes_in (drop f s)) in
-        let size = size_here s at l w a f n x e in
+        let rest = records_of (records_in (drop l.next s)) in
+        let bs = take l.count (bytes_in (drop l.first s)) in
+        let size = size_here s at l w in
         record {
           bytes =
               ap (λ (j : Tally). put d'' j.bytes (bytes_of rest)) r
-              ∙ ap (λ (b : List ℕ). put b (k.bytes + n) (bytes_of rest)) p
+              ∙ ap (λ (b : List ℕ). put b (k.bytes + l.count) (bytes_of rest)) p
               ∙ ap (λ (i : ℕ). put (put d' k.bytes bs) (k.bytes + i) (bytes_of rest)) (sym size)
               ∙ sym (put_append d' k.bytes bs (bytes_of rest))
               ∙ ap (λ (rs : List Rec). put d' k.bytes (bytes_of rs)) (sym split)
               ∙ v.bytes;
           row =
               ap (λ (j : Tally). rows j rest t'') r
-              ∙ ap (rows (counted k a n) rest) q
-              ∙ ap (λ (i : ℕ). rows (counted k a i) rest (rowed k a i t')) (sym size)
+              ∙ ap (rows (counted k l.address l.count) rest) q
+              ∙ ap (λ (i : ℕ). rows (counted k l.address i) rest (rowed k l.address i t')) (sym size)
               ∙ ap (λ (rs : List Rec). rows k rs t') (sym split)
               ∙ v.row;
-          right = (fine_more (one s at l w a f n x e) (records_in (drop x s)) right_here).1;
-          walked = walk_on s at l w a f n x e k k' v.walked r;
+          right = (fine_more (one s at l w) (records_in (drop l.next s)) right_here).1;
+          walked = walk_on s at l w k k' v.walked r;
           room = ap length p ∙ put_length d' k.bytes bs ∙ v.room;
-          cells = ap length q ∙ rowed_length k a n t' ∙ v.cells;
+          cells = ap length q ∙ rowed_length k l.address l.count t' ∙ v.cells;
         }

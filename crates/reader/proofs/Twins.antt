@@ -8,6 +8,7 @@ use Prim.Native.Nat.{ℕ, zero, suc, ◌+◌, ◌*◌, ◌≤◌, ◌<◌}
 use native.Mathlib.Omega.{arith}
 use lib.Dec.{ltb, leb, eqb, eqb-suc-zero}
 use lib.ListN.{length, get_or, drop}
+use Rattle.std.proofs.Common.{Option, Some, None}
 use Rattle.ground.specs.Choice.{pick}
 use Rattle.ground.proofs.Choices.{pick_false, by_test}
 use Rattle.records.specs.Fine.{Each}
@@ -33,20 +34,20 @@ pub data Twin : List ℕ → List ℕ → Type 0 where
   feed : {s t : List ℕ} → Twin s t → Twin (10 ∷ s) (13 ∷ 10 ∷ t)
 
 -- what is no digit ends the digits
-no_high : (c d : ℕ) → digit_of c ≡ 16 → pair_of c d ≡ 256
+no_high : (c d : ℕ) → digit_of c ≡ 16 → pair_of c d ≡ None
 unfolding pair_of
 no_high c d e = pick_false _ _ (rw e)
 
-no_low : (c d : ℕ) → digit_of d ≡ 16 → pair_of c d ≡ 256
+no_low : (c d : ℕ) → digit_of d ≡ 16 → pair_of c d ≡ None
 unfolding pair_of
 no_low c d e = pick_false _ _ (rw e (and-false (ltb (digit_of c) 16)))
 
 none_first : (c : ℕ) (s : List ℕ) → digit_of c ≡ 16 → bytes_in (c ∷ s) ≡ []
 none_first c [] e = refl
-none_first c (x ∷ s) e = pick_false _ _ (rw (no_high c x e))
+none_first c (x ∷ s) e = rw (no_high c x e)
 
 none_second : (c d : ℕ) (s : List ℕ) → digit_of d ≡ 16 → bytes_in (c ∷ d ∷ s) ≡ []
-none_second c d s e = pick_false _ _ (rw (no_low c d e))
+none_second c d s e = rw (no_low c d e)
 
 feed_none : digit_of 10 ≡ 16
 unfolding digit_of pick
@@ -74,25 +75,24 @@ behind_none : (s : List ℕ) → bytes_in s ≡ [] → behind s ≡ s
 unfolding behind
 behind_none s e = rw e
 
-behind_on : (h l : ℕ) (s : List ℕ) → ltb (pair_of h l) 256 ≡ true → behind (h ∷ l ∷ s) ≡ behind s
-unfolding behind pick
-behind_on h l s e =
+behind_on : (h l b : ℕ) (s : List ℕ) → pair_of h l ≡ Some b → behind (h ∷ l ∷ s) ≡ behind s
+unfolding behind
+behind_on h l b s e =
     let k : 2 * suc (length (bytes_in s)) ≡ suc (suc (2 * length (bytes_in s))) = omega arith in
     rw (e, k)
 
 whole_twin : {s t : List ℕ} → Twin s t → bytes_in s ≡ [] → Twin (behind s) (behind t)
 whole_twin {s} {t} w e = rw (behind_none s e, behind_none t (sym (bytes_twin w) ∙ e)) w
 
-pair_twin : {c d x y : ℕ} {s t : List ℕ} (b : Bool) → ltb (pair_of c x) 256 ≡ b → (p : Same c d) (q : Same x y) (w : Twin s t) → Twin (behind s) (behind t)
+pair_twin : {c d x y : ℕ} {s t : List ℕ} (o : Option ℕ) → pair_of c x ≡ o → (p : Same c d) (q : Same x y) (w : Twin s t) → Twin (behind s) (behind t)
     → Twin (behind (c ∷ x ∷ s)) (behind (d ∷ y ∷ t))
-pair_twin {c} {d} {x} {y} {s} {t} true e p q w r =
-    rw (behind_on c x s e, behind_on d y t (ap (λ (n : ℕ). ltb n 256) (sym (same_pair p q)) ∙ e)) r
-pair_twin {c} {d} {x} {y} {s} {t} false e p q w r = whole_twin (same p (same q w)) (pick_false _ _ e)
+pair_twin {c} {d} {x} {y} {s} {t} (Some b) e p q w r = rw (behind_on c x b s e, behind_on d y b t (sym (same_pair p q) ∙ e)) r
+pair_twin {c} {d} {x} {y} {s} {t} None e p q w r = whole_twin (same p (same q w)) (rw e)
 
 behind_twin : {s t : List ℕ} → Twin s t → Twin (behind s) (behind t)
 behind_twin none = whole_twin none refl
 behind_twin (same p none) = whole_twin (same p none) refl
-behind_twin (same {c} p (same {c = x} q w)) = pair_twin (ltb (pair_of c x) 256) refl p q w (behind_twin w)
+behind_twin (same {c} p (same {c = x} q w)) = pair_twin (pair_of c x) refl p q w (behind_twin w)
 behind_twin (same {c} p (both {s} e w)) = whole_twin (same p (both e w)) (none_second c 13 s return_none)
 behind_twin (same {c} p (feed {s} w)) = whole_twin (same p (feed w)) (none_second c 10 s feed_none)
 behind_twin (both {s} e w) = whole_twin (both e w) (none_first 13 s return_none)

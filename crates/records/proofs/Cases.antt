@@ -5,7 +5,10 @@ use mathlib.Core.List.{List, [], ◌∷◌, ◌++◌, map}
 use Prim.Native.Nat.{ℕ, zero, suc}
 use Prim.Native.Char.{code}
 use Prim.Native.String.{String, [] as []ˢ, ◌∷◌ as ◌∷ˢ◌}
+use Rattle.std.specs.Prelude.{Result, Err}
 use Rattle.ground.specs.Choice.{pick}
+use Rattle.ground.specs.declared.refusals.Refusal.{Refusal}
+use Rattle.ground.specs.declared.refusals.Refusal.TheVariants.{Unknown, NoRoom, Beyond}
 use Rattle.records.specs.Hex.{hex_of}
 use Rattle.records.specs.Line.{check_of, body, line}
 use Rattle.records.specs.Objects.{bytes_of, count_of, object_of, fits, faulty}
@@ -87,6 +90,9 @@ tried =
     []
 
 -- refused, where there is room for 11 characters
-pub refusals : map (λ (t : Tables). (written_of t.objects t.values 11).refusal) tried ≡ 1 ∷ 1 ∷ 1 ∷ 1 ∷ 18 ∷ 1 ∷ 18 ∷ 9 ∷ 9 ∷ []
+abbrev pub told : List (Result ℕ Refusal)
+told = Err Unknown ∷ Err Unknown ∷ Err Unknown ∷ Err Unknown ∷ Err Beyond ∷ Err Unknown ∷ Err Beyond ∷ Err NoRoom ∷ Err NoRoom ∷ []
+
+pub refusals : map (λ (t : Tables). written_of t.objects t.values 11) tried ≡ told
 unfolding written_of faulty fits text_of recs line body check_of hex_of bytes_of count_of object_of pick
 refusals = refl

@@ -1,81 +1,34 @@
--- The laws of the lent tables: what stands at a row, and that nothing is left after the last.
+-- The laws of the lent tables: how many bytes their rows have, and that the rows of an object are there.
 -- Assumes nothing.
 use mathlib.Core.Path.{◌≡◌, refl, sym, ap, ◌∙◌}
-use mathlib.Core.Bool.{Bool, true, false, ◌||◌, not}
+use mathlib.Core.Bool.{Bool, true, false, ◌||◌}
 use mathlib.Core.List.{List, [], ◌∷◌, ◌++◌, map}
-use Prim.Native.Nat.{ℕ, suc, ◌+◌, ◌-◌, ◌*◌, ◌/◌, ◌≤◌, ◌<◌}
-use native.Mathlib.Nat.{sub-zero}
+use Prim.Native.Nat.{ℕ, ◌+◌, ◌-◌, ◌*◌, ◌/◌, ◌≤◌, ◌<◌}
 use native.Mathlib.Omega.{arith}
 use borrow.Author.Tests.{ltb-false, le-ltb, ne_eqb}
 use lib.Dec.{eqb, ltb}
-use lib.ListN.{length, get_or, take, drop, length-append, length-take, length-drop}
-use lib.Seq.{drop-drop}
+use lib.ListN.{length, length-append, length-drop, get_or, take, drop}
+use Rattle.std.proofs.lemmas.List.{take_rest}
 use Rattle.ground.specs.Choice.{pick}
 use Rattle.ground.specs.Words.{high, low}
-use Rattle.ground.proofs.Stores.{drop_next}
-use Rattle.ground.proofs.Choices.{pick_false, by_pick}
+use Rattle.ground.proofs.Choices.{by_pick}
 use Rattle.ground.proofs.Tests.{neither_left, neither_right}
-use Rattle.records.specs.Objects.{
-  Object,
-  With,
-  Without,
-  bytes_of,
-  data_of,
-  count_of,
-  object_of,
-  objects_of,
-  fits,
-  bad_values,
-  bad_objects,
-  far,
-  too_far,
-}
+use Rattle.records.specs.Objects.{With, Without, bytes_of, data_of, count_of, object_of, objects_of, bad_objects, far, too_far}
 use Rattle.records.specs.Text.{Start, Byte, events}
-use Rattle.records.specs.Rows.{row_at}
-use Rattle.records.specs.declared.objects.Row.{Row}
 
-drop_two : (l : List ℕ) (k : ℕ) → k + 2 ≤ length l → drop k l ≡ get_or l k 0 ∷ get_or l (k + 1) 0 ∷ drop (k + 2) l
-drop_two l k h =
-    let e : k + 1 + 1 ≡ k + 2 = omega arith in
-    drop_next l k (omega arith)
-    ∙ ap (λ (r : List ℕ). get_or l k 0 ∷ r) (drop_next l (k + 1) (omega arith))
-    ∙ ap (λ (j : ℕ). get_or l k 0 ∷ get_or l (k + 1) 0 ∷ drop j l) e
+-- a table that has a row: its first, and the rows after it
+first_two : (vs : List ℕ) → 2 ≤ length vs → vs ≡ get_or vs 0 0 ∷ get_or vs 1 0 ∷ take (length vs - 2) (drop 2 vs)
+first_two [] h = absurd (omega arith)
+first_two (v ∷ []) h = absurd (omega arith)
+first_two (v ∷ w ∷ vs) h = rw (take_rest (v ∷ w ∷ vs) 2)
 
-drop_three :
-    (l : List ℕ) (i : ℕ) → i + 3 ≤ length l →
-    drop i l ≡ get_or l i 0 ∷ get_or l (i + 1) 0 ∷ get_or l (i + 2) 0 ∷ drop (i + 3) l
-drop_three l i h =
-    let e : i + 2 + 1 ≡ i + 3 = omega arith in
-    drop_two l i (omega arith)
-    ∙ ap (λ (r : List ℕ). get_or l i 0 ∷ get_or l (i + 1) 0 ∷ r) (drop_next l (i + 2) (omega arith))
-    ∙ ap (λ (j : ℕ). get_or l i 0 ∷ get_or l (i + 1) 0 ∷ get_or l (i + 2) 0 ∷ drop j l) e
-
--- the table of values
-pub values_next :
-    (vs : List ℕ) (k : ℕ) → k + 2 ≤ length vs →
-    bad_values (drop k vs) ≡ (not (fits (get_or vs k 0) (get_or vs (k + 1) 0)) || bad_values (drop (k + 2) vs))
-values_next vs k h = rw (drop_two vs k)
-
-few_values : (vs : List ℕ) → length vs < 2 → bad_values vs ≡ false
-few_values [] h = refl
-few_values (v ∷ []) h = refl
-few_values (v ∷ w ∷ vs) h = absurd (omega arith)
-
-pub values_done : (vs : List ℕ) (k : ℕ) → length vs - k < 2 → bad_values (drop k vs) ≡ false
-values_done vs k h = few_values (drop k vs) (omega (arith, length-drop k vs))
-
--- n values from place k on
-pub data_next :
-    (vs : List ℕ) (k n : ℕ) → 0 < n → k + 2 * n ≤ length vs →
-    data_of (take (2 * n) (drop k vs))
-    ≡ bytes_of (get_or vs k 0) (get_or vs (k + 1) 0) ++ data_of (take (2 * (n - 1)) (drop (k + 2) vs))
-data_next vs k n some h =
-    let e : 2 * n ≡ suc (suc (2 * (n - 1))) = omega arith in
-    let fits : k + 2 ≤ length vs = omega arith in
-    rw (drop_two vs k, e)
-
-pub data_done : (vs : List ℕ) (k n : ℕ) → n ≤ 0 → data_of (take (2 * n) (drop k vs)) ≡ []
-data_done vs k n h = let e : 2 * n ≡ 0 = omega arith in rw e
+pub first_three :
+    (os : List ℕ) → 3 ≤ length os →
+    os ≡ get_or os 0 0 ∷ get_or os 1 0 ∷ get_or os 2 0 ∷ take (length os - 3) (drop 3 os)
+first_three [] h = absurd (omega arith)
+first_three (a ∷ []) h = absurd (omega arith)
+first_three (a ∷ b ∷ []) h = absurd (omega arith)
+first_three (a ∷ b ∷ c ∷ os) h = rw (take_rest (a ∷ b ∷ c ∷ os) 3)
 
 pub size_small : (two : Bool) → pick two 2 1 ≤ 2
 size_small two = by_pick (λ (n : ℕ). n ≤ 2) two (omega arith) (omega arith)
@@ -90,14 +43,31 @@ unfolding bytes_of
 length_bytes number width = one_or_two (eqb width 16) (high number) (low number)
 
 -- a value's row is longer than its bytes, or as long
-data_short : (vs : List ℕ) → length (data_of vs) ≤ length vs
+pub data_short : (vs : List ℕ) → length (data_of vs) ≤ length vs
 data_short [] = omega arith
 data_short (v ∷ []) = omega arith
 data_short (v ∷ w ∷ vs) =
     omega (arith, length-append (bytes_of v w) (data_of vs), length_bytes v w, size_small (eqb w 16), data_short vs)
 
-pub data_small : (vs : List ℕ) (n : ℕ) → length (data_of (take (2 * n) vs)) ≤ 2 * n
-data_small vs n = omega (arith, data_short (take (2 * n) vs), length-take (2 * n) vs)
+pub data_next :
+    (vs : List ℕ) → 2 ≤ length vs →
+    data_of vs ≡ bytes_of (get_or vs 0 0) (get_or vs 1 0) ++ data_of (take (length vs - 2) (drop 2 vs))
+data_next vs h = ap data_of (first_two vs h)
+
+pub size_next :
+    (vs : List ℕ) → 2 ≤ length vs →
+    length (data_of vs) ≡ pick (eqb (get_or vs 1 0) 16) 2 1 + length (data_of (take (length vs - 2) (drop 2 vs)))
+size_next vs h =
+    let later = data_of (take (length vs - 2) (drop 2 vs)) in
+    let here = bytes_of (get_or vs 0 0) (get_or vs 1 0) in
+    omega (arith, ap length (data_next vs h), length-append here later, length_bytes (get_or vs 0 0) (get_or vs 1 0))
+
+pub bad_next :
+    (left : ℕ) (os : List ℕ) → 3 ≤ length os →
+    bad_objects left os
+    ≡ ((ltb 1 (get_or os 0 0) || ltb left (count_of (get_or os 0 0) (get_or os 2 0)))
+    || bad_objects (left - count_of (get_or os 0 0) (get_or os 2 0)) (take (length os - 3) (drop 3 os)))
+bad_next left os h = ap (bad_objects left) (first_three os h)
 
 far_data :
     (has : Bool) (address count : ℕ) (vs : List ℕ) → address < 65536 →
@@ -107,127 +77,130 @@ unfolding pick
 far_data true address count vs h = refl
 far_data false address count vs h = sym (le-ltb 65536 (address + 0) (omega arith))
 
--- where rows are left in both tables, from i and from k on, that are not bad
-pub record Left (os vs : List ℕ) (i k : ℕ) : Type 0 where
-  pub good : bad_objects ((length vs - k) / 2) (drop i os) ≡ false
-  pub values : k ≤ length vs
-  pub objects : i ≤ length os
+-- a table of objects that has a row, and the values that are left for it
+module _ (os vs : List ℕ) (h : 3 ≤ length os) where
+  abbrev kind : ℕ
+  kind = get_or os 0 0
 
-pub left_first : (os vs : List ℕ) → bad_objects (length vs / 2) os ≡ false → Left os vs 0 0
-left_first os vs g = record { good = rw sub-zero g; values = omega arith; objects = omega arith }
+  abbrev address : ℕ
+  address = get_or os 1 0
 
--- the table of objects, where a row was read at place i
-module _ (os : List ℕ) (i : ℕ) (row : Row) (h : i + 3 ≤ length os) (e : row ≡ row_at os i) where
-  pub objects_next :
-      (vs : List ℕ) →
-      objects_of (drop i os) vs
-      ≡ object_of row.kind row.address (data_of (take (2 * row.count) vs))
-      ∷ objects_of (drop (i + 3) os) (drop (2 * row.count) vs)
-  unfolding row_at
-  objects_next vs = rw (drop_three os i, e)
+  abbrev count : ℕ
+  count = count_of (get_or os 0 0) (get_or os 2 0)
 
-  pub bad_next :
-      (left : ℕ) →
-      bad_objects left (drop i os)
-      ≡ ((ltb 1 row.kind || ltb left row.count) || bad_objects (left - row.count) (drop (i + 3) os))
-  unfolding row_at
-  bad_next left = rw (drop_three os i, e)
+  -- the objects after it, and the values for them
+  abbrev others : List ℕ
+  others = take (length os - 3) (drop 3 os)
 
-  module _ (vs : List ℕ) (k : ℕ) (l : Left os vs i k) where
-    abbrev bad : Bool
-    bad = ltb 1 row.kind || ltb ((length vs - k) / 2) row.count
+  abbrev later : List ℕ
+  later = drop (2 * count_of (get_or os 0 0) (get_or os 2 0)) vs
 
-    abbrev bad_later : Bool
-    bad_later = bad_objects ((length vs - k) / 2 - row.count) (drop (i + 3) os)
+  pub objects_next : objects_of os vs ≡ object_of kind address (data_of (take (2 * count) vs)) ∷ objects_of others later
+  objects_next = ap (λ (l : List ℕ). objects_of l vs) (first_three os h)
 
-    none : (bad || bad_later) ≡ false
-    none = sym (bad_next ((length vs - k) / 2)) ∙ l.good
+  -- not bad: its values are there, and so are those of the objects after it
+  module _ (good : bad_objects (length vs / 2) os ≡ false) where
+    none : ((ltb 1 kind || ltb (length vs / 2) count) || bad_objects (length vs / 2 - count) others) ≡ false
+    none = sym (bad_next (length vs / 2) os h) ∙ good
 
-    -- the object's values are there
-    pub values_there : k + 2 * row.count ≤ length vs
+    pub values_there : 2 * count_of (get_or os 0 0) (get_or os 2 0) ≤ length vs
     values_there =
-        let t = neither_right (ltb 1 row.kind) (ltb ((length vs - k) / 2) row.count) (neither_left bad bad_later none) in
-        omega (arith, l.values, ltb-false ((length vs - k) / 2) row.count t)
+        let t = neither_right (ltb 1 kind) (ltb (length vs / 2) count) (neither_left _ _ none) in
+        omega (arith, ltb-false (length vs / 2) count t)
 
-    pub left_next : Left os vs (i + 3) (k + 2 * row.count)
-    left_next =
-        let n : (length vs - (k + 2 * row.count)) / 2 ≡ (length vs - k) / 2 - row.count = omega (arith, values_there) in
-        record { good = rw n (neither_right bad bad_later none); values = values_there; objects = h }
-
-  -- the objects from a place of either table on
-  pub objects_from_lem :
-      (vs : List ℕ) (k : ℕ) →
-      objects_of (drop i os) (drop k vs)
-      ≡ object_of row.kind row.address (data_of (take (2 * row.count) (drop k vs)))
-      ∷ objects_of (drop (i + 3) os) (drop (k + 2 * row.count) vs)
-  objects_from_lem vs k = rw (← drop-drop (2 * row.count) k vs) (objects_next (drop k vs))
+    pub good_next : bad_objects (length (drop (2 * count_of (get_or os 0 0) (get_or os 2 0)) vs) / 2) (take (length os - 3) (drop 3 os)) ≡ false
+    good_next =
+        let n : length later / 2 ≡ length vs / 2 - count = omega (arith, values_there, length-drop (2 * count) vs) in
+        rw n (neither_right _ _ none)
 
   -- an object without data counts no value, so that its address decides, which is never beyond
-  pub far_row :
-      (vs : List ℕ) → row.address < 65536 →
-      far (object_of row.kind row.address (data_of (take (2 * row.count) vs)))
-      ≡ ltb 65536 (row.address + length (data_of (take (2 * row.count) vs)))
-  unfolding row_at object_of count_of
-  far_row vs a = rw e (far_data (eqb (get_or os i 0) 1) (get_or os (i + 1) 0) (get_or os (i + 2) 0) vs (rw e at a))
+  far_row :
+      address < 65536 →
+      far (object_of kind address (data_of (take (2 * count) vs))) ≡ ltb 65536 (address + length (data_of (take (2 * count) vs)))
+  unfolding object_of count_of
+  far_row a = far_data (eqb kind 1) address (get_or os 2 0) vs a
 
   pub far_next :
-      (vs : List ℕ) (k : ℕ) → row.address < 65536 →
-      too_far (objects_of (drop i os) (drop k vs))
-      ≡ (ltb 65536 (row.address + length (data_of (take (2 * row.count) (drop k vs))))
-      || too_far (objects_of (drop (i + 3) os) (drop (k + 2 * row.count) vs)))
-  far_next vs k a =
-      ap too_far (objects_from_lem vs k)
-      ∙ ap (λ (b : Bool). b || too_far (objects_of (drop (i + 3) os) (drop (k + 2 * row.count) vs))) (far_row (drop k vs) a)
+      get_or os 1 0 < 65536 →
+      too_far (objects_of os vs)
+      ≡ (ltb 65536 (get_or os 1 0 + length (data_of (take (2 * count_of (get_or os 0 0) (get_or os 2 0)) vs)))
+      || too_far (objects_of (take (length os - 3) (drop 3 os)) (drop (2 * count_of (get_or os 0 0) (get_or os 2 0)) vs)))
+  far_next a = ap too_far objects_next ∙ ap (λ (b : Bool). b || too_far (objects_of others later)) (far_row a)
 
-  -- what the object adds to the events, and that it ends within 65536
-  pub events_with :
-      (vs : List ℕ) (k : ℕ) → row.kind ≡ 1 →
-      events (objects_of (drop i os) (drop k vs))
-      ≡ Start row.address
-      ∷ (map Byte (data_of (take (2 * row.count) (drop k vs)))
-      ++ events (objects_of (drop (i + 3) os) (drop (k + 2 * row.count) vs)))
-  unfolding object_of pick
-  events_with vs k t = ap events (objects_from_lem vs k) ∙ rw t
+-- an object that ends within 65536 leaves those after it to decide, with the values that are left
+pub far_on :
+    {own later : List ℕ} {n size : ℕ} (os vs : List ℕ) →
+    3 ≤ length os →
+    get_or os 1 0 < 65536 →
+    n ≡ count_of (get_or os 0 0) (get_or os 2 0) →
+    own ≡ take (2 * n) vs →
+    later ≡ drop (2 * n) vs →
+    size ≡ length (data_of own) →
+    get_or os 1 0 + size ≤ 65536 →
+    too_far (objects_of os vs) ≡ too_far (objects_of (take (length os - 3) (drop 3 os)) later)
+far_on os vs h a n o l s near =
+    rw (l, n)
+    (far_next os vs h a
+    ∙ ap (λ (b : Bool). b || too_far (objects_of (take (length os - 3) (drop 3 os)) (drop (2 * count_of (get_or os 0 0) (get_or os 2 0)) vs)))
+    (le-ltb 65536 _ (rw (s, o, n) at near)))
 
-  pub events_without :
-      (vs : List ℕ) (k : ℕ) → (row.kind ≡ 1 → ⊥) →
-      events (objects_of (drop i os) (drop k vs)) ≡ events (objects_of (drop (i + 3) os) (drop (k + 2 * row.count) vs))
-  unfolding object_of pick
-  events_without vs k t = ap events (objects_from_lem vs k) ∙ rw (ne_eqb row.kind 1 t)
+-- how many values the row has, by its kind
+pub count_with : (kind count : ℕ) → kind ≡ 1 → count ≡ count_of kind count
+unfolding count_of pick
+count_with kind count t = rw t
 
-  pub count_without : (row.kind ≡ 1 → ⊥) → row.count ≡ 0
-  unfolding row_at count_of
-  count_without t =
-      ap (λ (r : Row). r.count) e
-      ∙ pick_false (get_or os (i + 2) 0) 0 (ne_eqb (get_or os i 0) 1 (λ one. t (ap (λ (r : Row). r.kind) e ∙ one)))
+pub count_without : (kind count : ℕ) → (kind ≡ 1 → ⊥) → 0 ≡ count_of kind count
+unfolding count_of pick
+count_without kind count t = rw (ne_eqb kind 1 t)
 
-  module _ (vs : List ℕ) (k : ℕ) (a : row.address < 65536) (n : too_far (objects_of (drop i os) (drop k vs)) ≡ false) where
-    abbrev end : ℕ
-    end = row.address + length (data_of (take (2 * row.count) (drop k vs)))
+-- a row with its own values and those that are later, where nothing is bad nor too far
+pub record Sound (os own later : List ℕ) : Type 0 where
+  pub ends : get_or os 1 0 + length (data_of own) ≤ 65536
+  pub good : bad_objects (length later / 2) (take (length os - 3) (drop 3 os)) ≡ false
+  pub near : too_far (objects_of (take (length os - 3) (drop 3 os)) later) ≡ false
 
-    abbrev later : List Object
-    later = objects_of (drop (i + 3) os) (drop (k + 2 * row.count) vs)
+pub sound :
+    {own later : List ℕ} {n : ℕ} (os vs : List ℕ) →
+    3 ≤ length os →
+    get_or os 1 0 < 65536 →
+    n ≡ count_of (get_or os 0 0) (get_or os 2 0) →
+    own ≡ take (2 * n) vs →
+    later ≡ drop (2 * n) vs →
+    bad_objects (length vs / 2) os ≡ false →
+    too_far (objects_of os vs) ≡ false →
+    Sound os own later
+sound os vs h a n o l good near =
+    let t = sym (far_next os vs h a) ∙ near in
+    rw (o, l, n) (record {
+      ends = ltb-false 65536 _ (neither_left _ _ t);
+      good = good_next os vs h good;
+      near = neither_right _ _ t;
+    })
 
-    pub ends_near : end ≤ 65536
-    ends_near = ltb-false 65536 end (neither_left (ltb 65536 end) (too_far later) (sym (far_next vs k a) ∙ n))
+-- what the row adds to the events
+pub events_with :
+    {own later : List ℕ} (os vs : List ℕ) →
+    3 ≤ length os →
+    get_or os 0 0 ≡ 1 →
+    own ≡ take (2 * get_or os 2 0) vs →
+    later ≡ drop (2 * get_or os 2 0) vs →
+    events (objects_of os vs)
+    ≡ Start (get_or os 1 0) ∷ (map Byte (data_of own) ++ events (objects_of (take (length os - 3) (drop 3 os)) later))
+unfolding object_of count_of pick
+events_with os vs h t o l = rw (o, l) (ap events (objects_next os vs h) ∙ rw t)
 
-    pub near_next : too_far later ≡ false
-    near_next = neither_right (ltb 65536 end) (too_far later) (sym (far_next vs k a) ∙ n)
+pub events_without :
+    (os vs : List ℕ) →
+    3 ≤ length os →
+    (get_or os 0 0 ≡ 1 → ⊥) →
+    events (objects_of os vs) ≡ events (objects_of (take (length os - 3) (drop 3 os)) vs)
+unfolding object_of count_of pick
+events_without os vs h t = ap events (objects_next os vs h) ∙ rw (ne_eqb (get_or os 0 0) 1 t)
 
-few_objects : (os vs : List ℕ) → length os < 3 → objects_of os vs ≡ []
-few_objects [] vs h = refl
-few_objects (a ∷ []) vs h = refl
-few_objects (a ∷ b ∷ []) vs h = refl
-few_objects (a ∷ b ∷ c ∷ os) vs h = absurd (omega arith)
-
-pub objects_done : (os vs : List ℕ) (i : ℕ) → length os - i < 3 → objects_of (drop i os) vs ≡ []
-objects_done os vs i h = few_objects (drop i os) vs (omega (arith, length-drop i os))
-
-few_bad : (left : ℕ) (os : List ℕ) → length os < 3 → bad_objects left os ≡ false
-few_bad left [] h = refl
-few_bad left (a ∷ []) h = refl
-few_bad left (a ∷ b ∷ []) h = refl
-few_bad left (a ∷ b ∷ c ∷ os) h = absurd (omega arith)
-
-pub bad_done : (left : ℕ) (os : List ℕ) (i : ℕ) → length os - i < 3 → bad_objects left (drop i os) ≡ false
-bad_done left os i h = few_bad left (drop i os) (omega (arith, length-drop i os))
+pub near_without :
+    (os vs : List ℕ) →
+    3 ≤ length os →
+    (get_or os 0 0 ≡ 1 → ⊥) →
+    too_far (objects_of os vs) ≡ too_far (objects_of (take (length os - 3) (drop 3 os)) vs)
+unfolding object_of count_of pick
+near_without os vs h t = ap too_far (objects_next os vs h) ∙ rw (ne_eqb (get_or os 0 0) 1 t)

@@ -2,9 +2,10 @@
 -- Assumes nothing.
 use mathlib.Core.Path.{◌≡◌, refl}
 use mathlib.Core.List.{List, [], ◌∷◌, ◌++◌, map}
-use Prim.Native.Nat.{ℕ, ◌+◌, ◌*◌}
+use Prim.Native.Nat.{ℕ, ◌+◌, ◌*◌, ◌<◌, ◌≤◌}
 use native.Mathlib.Omega.{arith}
-use lib.ListN.{length, length-append, set}
+use lib.ListN.{length, length-append, get_or, set, take}
+use Rattle.std.proofs.lemmas.List.{take_more, length-take-le}
 use Rattle.ground.specs.Stores.{Wrote}
 use Rattle.ground.specs.Words.{high, low}
 use Rattle.ground.proofs.Stores.{wrote_one, and_then}
@@ -50,6 +51,18 @@ penned_then {bs = bs} {cs = cs} v w = record {
   digits = rw (hexes_append bs cs) (and_then v.digits w.digits);
   total = omega (arith, v.total, w.total, sum_append bs cs);
 }
+
+-- the bytes of a list, one after the other
+pub penned_none : (d : List ℕ) (s : Pen) → s.sum < 256 → Penned d s [] s d
+penned_none d s h = record { digits = record { next = omega arith; buffer = refl }; total = omega arith }
+
+pub penned_next :
+    {d e f : List ℕ} {s m r : Pen} {i : ℕ} (bs : List ℕ) → i < length bs →
+    Penned d s (take i bs) m e → Penned e m (get_or bs i 0 ∷ []) r f → Penned d s (take (i + 1) bs) r f
+penned_next bs h v w = rw (take_more bs _ 0 h) (penned_then v w)
+
+pub penned_at : {d e : List ℕ} {s m : Pen} {i : ℕ} (bs : List ℕ) → i ≤ length bs → Penned d s (take i bs) m e → m.at ≡ s.at + 2 * i
+penned_at {i = i} bs h w = omega (arith, w.digits.next, length_hexes (take i bs), length-take-le i bs h)
 
 -- the parts of a line: the colon, the bytes, their check, and the line feed
 pub line_wrote :

@@ -2,7 +2,6 @@ pub mod Hex
 pub mod Line
 pub mod Objects
 pub mod Penned
-pub mod Rows
 pub mod Text
 pub mod Written
 pub mod Runs

@@ -43,6 +43,25 @@ pub record Goes (d : List ℕ) (s : Present) (more : List Event → List Event) 
   pub whole : length r.bytes ≡ 32
   pub place : r.start + r.n ≡ next
 
+-- the record that a walk begins with, whatever the array holds
+abbrev pub first : List ℕ → Present
+first bytes = record { start = 0; n = 0; at = 0; bytes = bytes }
+
+-- the way from one place of a walk, with the events es ahead, to another with the events fs ahead: what is written in the end is the same
+pub record Along (d : List ℕ) (s : Present) (es : List Event) (e : List ℕ) (r : Present) (fs : List Event) : Type 0 where
+  pub size : r.at + length (ahead r fs) ≡ s.at + length (ahead s es)
+  pub buffer : put e r.at (ahead r fs) ≡ put d s.at (ahead s es)
+  pub small : r.n < 32
+  pub whole : length r.bytes ≡ 32
+  pub long : length e ≡ length d
+
+-- all events es were passed, or the walk stopped past the room
+pub record Passed (d : List ℕ) (s : Present) (es : List Event) (room : ℕ) (r : Present) (e : List ℕ) : Type 0 where
+  pub going : r.at ≤ room → Along d s es e r [] × (r.start + r.n ≤ 65536)
+  pub stopped : room < r.at → room < s.at + length (ahead s es)
+  pub whole : length r.bytes ≡ 32
+  pub long : length e ≡ length d
+
 -- a walk that may stop once it is past the room: the text t is written, or it is longer than the room
 pub record Walked (d t : List ℕ) (room r : ℕ) (e : List ℕ) : Type 0 where
   pub done : r ≤ room → (r ≡ length t) × (e ≡ put d 0 t)

@@ -16,6 +16,7 @@ fn digit(n: usize) -> u8
 }
 
 // Stores the two digits of a byte from a place on. What would stand past the end of the buffer is not stored.
+#[tactic(auto, using(ground::proofs::Stores::put_past))]
 pub fn store_digits(out: &mut [u8], at: usize, b: u8)
     ensures { out.new ≡ put out.old at (hexes (b ∷ [])) }
 {

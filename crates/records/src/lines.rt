@@ -29,6 +29,7 @@ impl Pen {
     }
 
     // The digits of count, address and type.
+    #[tactic(auto, using(crate::proofs::Writing::penned_then))]
     fn head(self, out: &mut [u8], count: u8, address: u16, kind: u8) -> Pen
         requires { self.at + 8 < 2 ^ 64 }
         ensures { Penned out.old self (count ∷ high address ∷ low address ∷ kind ∷ []) result out.new }
@@ -40,20 +41,20 @@ impl Pen {
     }
 
     // The digits of bytes.
+    #[tactic(auto, using(crate::proofs::Writing::penned_none))]
     fn bytes(self, out: &mut [u8], bytes: &[u8]) -> Pen
         requires { self.at + 2 * length bytes.now < 2 ^ 64 }
         ensures { Penned out.old self bytes.now result out.new }
     {
         let mut pen = self;
-        let mut i = 0;
-        while i < bytes.len() {
-            pen = pen.byte(out, bytes[i]);
-            i += 1;
+        for b in bytes {
+            pen = pen.byte(out, *b);
         }
         pen
     }
 
     // The digits of the check, which makes the sum 0.
+    #[tactic(auto, unfolding(crate::specs::Line::check_of))]
     fn check(self, out: &mut [u8]) -> Pen
         requires { self.at + 2 < 2 ^ 64 }
         ensures { Penned out.old self (check_of (self.sum ∷ []) ∷ []) result out.new }
@@ -64,6 +65,7 @@ impl Pen {
 }
 
 // A line, and the place after it. Past the end of the buffer there is nothing to store: such a line is only measured.
+#[tactic(auto, using(ground::proofs::Stores::put_past, crate::proofs::Writing::length_line, crate::proofs::Writing::length_hexes))]
 pub(crate) fn put_line(out: &mut [u8], at: usize, kind: u8, address: u16, bytes: &[u8]) -> usize
     requires { (length bytes.now < 256) × (at + 12 + 2 * length bytes.now < 2 ^ 64) }
     ensures { Wrote out.old at (line kind address bytes.now) result out.new }

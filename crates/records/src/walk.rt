@@ -2,14 +2,13 @@
 ghost use Rattle.std.specs.Prelude.{◌≡◌, false, [], ◌∷◌, map, ◌++◌, ◌+◌, ◌/◌, ◌^◌, ◌<◌, ◌≤◌, length};
 ghost use Rattle.ground.specs.Stores.{Wrote};
 ghost use Rattle.records.specs.Objects.{bytes_of, objects_of, bad_objects, too_far};
-ghost use Rattle.records.specs.Text.{Start, Byte, text_of};
-ghost use Rattle.records.specs.Steps.{holding, ahead, Restarted, Goes, Walked};
+ghost use Rattle.records.specs.Text.{Start, Byte, events, text_of};
+ghost use Rattle.records.specs.Steps.{holding, first, ahead, Restarted, Goes, Passed, Walked};
 
 use super::lines::put_line;
-use super::objects::row_at;
 
 // The present record: where it starts and how many bytes it has so far; and where the text goes on. Its bytes stand in a lent array of 32:
-// in the record itself they would be copied for each byte.
+// in the record itself they would be copied for each byte. Each step states its own bounds: they differ from step to step.
 #[derive(Clone, Copy)]
 pub(crate) struct Open {
     start: usize,
@@ -71,6 +70,7 @@ impl Open {
     }
 
     // The byte of a value of 8 bits, or the two of one of 16.
+    #[tactic(auto, unfolding(crate::specs::Objects::bytes_of, ground::specs::Choice::pick))]
     fn value(self, bytes: &mut [u8], out: &mut [u8], number: u16, width: u16) -> Open
         requires { (length bytes.old ≡ 32) × (self.n < 32) × (self.start + self.n + length (bytes_of number width) ≤ 65536) × (self.at + 152 < 2 ^ 64) }
         ensures { Goes out.old (holding self bytes.old) (λ es. map Byte (bytes_of number width) ++ es) (self.start + self.n + length (bytes_of number width)) (holding result bytes.new) out.new }
@@ -95,57 +95,57 @@ impl Open {
     }
 }
 
-// The walk, lent an array for the bytes of the present record. Once it is past the room, it leaves both loops: the place it is at then is
-// past the room too, and what the buffer holds is of no use.
-fn walk_with(
-    objects: &[u16],
-    values: &[u16],
+// The records of the objects, but for the last; lent an array for the bytes of the present one. Once the walk is past the room, it leaves both
+// loops: what the buffer holds then is of no use.
+fn pass(
+    mut objects: &[u16],
+    mut values: &[u16],
     bytes: &mut [u8],
     out: &mut [u8],
     room: usize,
-) -> usize
+) -> Open
     requires { (length bytes.old ≡ 32) × (bad_objects (length values.now / 2) objects.now ≡ false) × (too_far (objects_of objects.now values.now) ≡ false) × (room < 2 ^ 63) }
-    ensures { Walked out.old (text_of objects.now values.now) room result out.new }
+    ensures { Passed out.old (first bytes.old) (events (objects_of objects.now values.now)) room (holding result bytes.new) out.new }
 {
     let mut present = Open {
         start: 0,
         n: 0,
         at: 0,
     };
-    let mut i = 0;
-    let mut k = 0;
-    'objects: while 3 <= objects.len() - i {
-        let row = row_at(objects, i);
-        i += 3;
-        if row.kind != 1 {
+    // Labelled loops, one in the other, as document 01 asks: what ends the writing leaves both.
+    'objects: while let [kind, address, count, rest @ ..] = objects {
+        objects = rest;
+        if *kind != 1 {
             continue 'objects;
         }
-        present = present.begin(bytes, out, row.address as usize);
+        present = present.begin(bytes, out, *address as usize);
         if room < present.at {
             break 'objects;
         }
-        let mut left = row.count as usize;
-        'values: while 0 < left {
-            present = present.value(bytes, out, values[k], values[k + 1]);
+        let (mut own, later) = values.split_at(2 * *count as usize);
+        values = later;
+        'values: while let [number, width, more @ ..] = own {
+            present = present.value(bytes, out, *number, *width);
             if room < present.at {
                 break 'objects;
             }
-            k += 2;
-            left -= 1;
+            own = more;
         }
     }
-    if room < present.at {
-        present.at
-    } else {
-        present.finish(bytes, out)
-    }
+    present
 }
 
 // Writes the text of the objects, and says where it ends; where the text is longer than the room, the answer is some place past the room.
+#[tactic(auto, using(crate::proofs::Rounds::walked_over, crate::proofs::Rounds::walked_done), unfolding(crate::specs::Text::text_of, crate::specs::Text::recs))]
 pub(crate) fn walk(objects: &[u16], values: &[u16], out: &mut [u8], room: usize) -> usize
     requires { (bad_objects (length values.now / 2) objects.now ≡ false) × (too_far (objects_of objects.now values.now) ≡ false) × (room < 2 ^ 63) }
     ensures { Walked out.old (text_of objects.now values.now) room result out.new }
 {
     let mut bytes = [0; 32];
-    walk_with(objects, values, &mut bytes, out, room)
+    let last = pass(objects, values, &mut bytes, out, room);
+    if room < last.at {
+        last.at
+    } else {
+        last.finish(&bytes, out)
+    }
 }

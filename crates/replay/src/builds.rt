@@ -5,7 +5,8 @@ ghost use Rattle.std.specs.Prelude.{◌<◌};
 
 use crate::lines::{four, has, one, two};
 use crate::state::State;
-use ground::tables::byte;
+use ground::refusals::Refusal;
+use ground::tables::cell_or;
 use instruction::{Built, Operand, Record, Values};
 use values::Value;
 use values::pages::Page;
@@ -88,22 +89,29 @@ fn form_digit(form: u8, dirties: bool) -> u16 {
 }
 
 // The answer is not the one that stands in the line from a place on.
-pub(crate) fn differs(built: Built, line: &[u8], at: usize) -> bool
+pub(crate) fn differs(built: Result<Built, Refusal>, line: &[u8], at: usize) -> bool
     requires { at < 16 }
 {
-    if byte(line, at) == b'-' {
-        return !(built.refusal == one(line, at + 1));
+    let refused = cell_or(line, at, 0) == b'-';
+    match built {
+        Ok(b) => refused | differing(b, line, at),
+        Err(n) => !(refused & (n.number() == one(line, at + 1))),
     }
+}
+
+fn differing(built: Built, line: &[u8], at: usize) -> bool
+    requires { at < 16 }
+{
     let instruction = built.instruction;
     let bytes = built.bytes;
     let form = form_digit(instruction.form, built.dirties);
-    let alike = (built.refusal == 0) & (form == one(line, at) as u16);
+    let alike = form == one(line, at) as u16;
     !(alike & (at + 1 + 2 * built.length as usize == line.len()))
         | differing_bytes(bytes, line, at + 1)
 }
 
 // The operand built fresh, with the values, the page and the address of the line.
-fn assembled(operand: Operand, line: &[u8]) -> Built {
+fn assembled(operand: Operand, line: &[u8]) -> Result<Built, Refusal> {
     let record = Record {
         operand,
         page: page(line),
@@ -116,19 +124,24 @@ fn fresh(mut s: State, line: &[u8]) -> State {
     let i = s.instruction;
     let operand = i.operand;
     let built = assembled(operand, line);
-    let next = built.instruction;
-    if built.refusal == 0 {
-        s.instruction = next;
+    if let Ok(b) = built {
+        s.instruction = b.instruction;
     }
     s.compared(differs(built, line, 14))
 }
 
 fn kept(mut s: State, line: &[u8]) -> State {
     let i = s.instruction;
-    let built = i.build(values(line), page(line), four(line, 1));
-    let next = built.instruction;
-    s.instruction = next;
-    s.compared(differs(built, line, 14))
+    match i.build(values(line), page(line), four(line, 1)) {
+        Ok(b) => {
+            s.instruction = b.instruction;
+            s.compared(differs(Ok(b), line, 14))
+        }
+        Err(refused) => {
+            s.instruction = refused.instruction;
+            s.compared(differs(Err(refused.refusal), line, 14))
+        }
+    }
 }
 
 pub(crate) fn named(mut s: State, line: &[u8]) -> State {
@@ -139,7 +152,7 @@ pub(crate) fn named(mut s: State, line: &[u8]) -> State {
 }
 
 pub(crate) fn read(s: State, line: &[u8]) -> State {
-    let kind = byte(line, 0);
+    let kind = cell_or(line, 0, 0);
     match kind {
         b'>' => named(s, line),
         b'f' => fresh(s, line),

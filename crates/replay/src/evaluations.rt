@@ -1,5 +1,5 @@
 // Expressions by hand, a piece a line: `z` begins anew, `n` and `l` are rows of the two tables, `?` NODE LOCATION and the two values, each a number and 1
-// where it is wide, or `-` and a refusal, asks a node; `>` names an operand, and `e` builds it with the values of the last question.
+// where it is wide, or `-` and a refusal, asks a node; `>` names an operand, and `e` builds it with the last values that were answered.
 ghost use Rattle.std.specs.Prelude.{◌<◌};
 
 use crate::builds;
@@ -7,7 +7,8 @@ use crate::lines::{four, has, one};
 use crate::state::State;
 use crate::tables::{store_row, used};
 use expressions::Evaluated;
-use ground::tables::byte;
+use ground::refusals::Refusal;
+use ground::tables::cell_or;
 use instruction::{Record, Values};
 use values::Value;
 use values::pages::Page;
@@ -33,14 +34,16 @@ fn is_value(v: Value, line: &[u8], at: usize) -> bool
     (v.number == four(line, at)) & ((v.width == 16) == has(line, at + 4, 1))
 }
 
-fn differs(found: Evaluated, line: &[u8]) -> bool {
-    if byte(line, 9) == b'-' {
-        return found.refusal != one(line, 10);
+fn differs(found: Result<Evaluated, Refusal>, line: &[u8]) -> bool {
+    let refused = cell_or(line, 9, 0) == b'-';
+    match found {
+        Ok(both) => {
+            let unsigned = both.unsigned;
+            let signed = both.signed;
+            refused | !(is_value(unsigned, line, 9) & is_value(signed, line, 14))
+        }
+        Err(why) => !refused | (why.number() != one(line, 10)),
     }
-    let unsigned = found.unsigned;
-    let signed = found.signed;
-    let alike = is_value(unsigned, line, 9) & is_value(signed, line, 14);
-    !((found.refusal == 0) & alike)
 }
 
 fn ask(mut s: State, line: &[u8], nodes: &[u16], labels: &[u16]) -> State {
@@ -52,14 +55,16 @@ fn ask(mut s: State, line: &[u8], nodes: &[u16], labels: &[u16]) -> State {
         four(line, 1),
         four(line, 5),
     );
-    let unsigned = found.unsigned;
-    let signed = found.signed;
-    let values = Values {
-        given: true,
-        unsigned,
-        signed,
-    };
-    s.values = values;
+    if let Ok(both) = found {
+        let unsigned = both.unsigned;
+        let signed = both.signed;
+        let values = Values {
+            given: true,
+            unsigned,
+            signed,
+        };
+        s.values = values;
+    }
     s.compared(differs(found, line))
 }
 
@@ -83,7 +88,7 @@ fn anew(mut s: State) -> State {
 }
 
 pub(crate) fn read(s: State, line: &[u8], nodes: &mut [u16], labels: &mut [u16]) -> State {
-    let kind = byte(line, 0);
+    let kind = cell_or(line, 0, 0);
     match kind {
         b'z' => anew(s),
         b'n' => node(s, line, nodes),

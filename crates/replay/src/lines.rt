@@ -1,14 +1,14 @@
 // Lines of text, and numbers in hexadecimal in them. What is no digit counts as 0.
-ghost use Rattle.std.specs.Prelude.{◌≡◌, ◌+◌, ◌<◌, ◌≤◌, min, length};
+ghost use Rattle.std.specs.Prelude.{◌<◌};
 
-use ground::tables::byte;
+use ground::tables::cell_or;
 use reader::digit;
 
 // A number of one digit. The reader has 16 for what is none.
 pub(crate) fn one(line: &[u8], at: usize) -> u8
     ensures { result < 16 }
 {
-    digit(byte(line, at)) % 16
+    digit(cell_or(line, at, 0)) % 16
 }
 
 // A number of two digits.
@@ -30,30 +30,4 @@ pub(crate) fn four(line: &[u8], at: usize) -> u16
 // Bit n of a number of one digit.
 pub(crate) fn has(line: &[u8], at: usize, bit: u8) -> bool {
     one(line, at) & bit == bit
-}
-
-// Where the line that stands at a place ends.
-pub(crate) fn end_of(text: &[u8], at: usize) -> usize
-    requires { at ≤ length text.now }
-    ensures { (at ≤ result) × (result ≤ length text.now) }
-{
-    let mut i = at;
-    while i < text.len() {
-        if text[i] == b'\n' {
-            return i;
-        }
-        i += 1;
-    }
-    i
-}
-
-// The place after the end of a line, within the text.
-pub(crate) fn after(text: &[u8], end: usize) -> usize
-    ensures { result ≡ min (end + 1) (length text.now) }
-{
-    if end < text.len() {
-        end + 1
-    } else {
-        text.len()
-    }
 }

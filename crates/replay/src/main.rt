@@ -18,87 +18,30 @@ use state::{State, Tally};
 use std::io;
 use std::rt::Files;
 
-#[derive(Clone, Copy)]
-enum File {
-    Builds,
-    Texts,
-    Labels,
-    Segments,
-    Evaluations,
-}
-
-fn say(rt: &impl Print, text: &[u8]) -> io::Result<()> {
-    rt.write_all(text)
-}
-
-fn read(
-    file: File,
-    s: State,
-    line: &[u8],
-    first: &mut [u16],
-    second: &mut [u16],
-    out: &mut [u8],
-) -> State {
-    match file {
-        File::Builds => builds::read(s, line),
-        File::Texts => texts::read(s, line, first, second, out),
-        File::Labels => labels::read(s, line),
-        File::Segments => starts::read(s, line, first),
-        File::Evaluations => evaluations::read(s, line, first, second),
-    }
-}
-
 fn say_differing(rt: &impl Print, n: u64, line: &[u8]) -> io::Result<()> {
-    say(rt, b"line ")?;
-    rt.print(n)?;
-    say(rt, b" differs: ")?;
-    say(rt, line)?;
-    say(rt, b"\n")
+    print!(rt; "line {n} differs: ")?;
+    rt.write_all(line)?;
+    println!(rt;)
 }
 
-// Reads a line, and prints it and its number where its answer differs.
-fn turn(
+// Reads the lines of a text, each by the file's own reading.
+fn replay<F: FnMut(State, &[u8]) -> State>(
     rt: &impl Print,
-    file: File,
-    s: State,
-    line: &[u8],
-    first: &mut [u16],
-    second: &mut [u16],
-    out: &mut [u8],
-) -> io::Result<State> {
-    let before = s.tally;
-    let next = read(file, s.entered(), line, first, second, out);
-    let after = next.tally;
-    if before.differing < after.differing {
-        say_differing(rt, next.line, line)?;
-    }
-    Ok(next)
-}
-
-fn walk(
-    rt: &impl Print,
-    file: File,
     text: &[u8],
-    first: &mut [u16],
-    second: &mut [u16],
-    out: &mut [u8],
-) -> io::Result<Tally> {
+    mut read: F,
+) -> io::Result<Tally>
+    requires { F.IsAlwaysCallable read }
+{
     let mut s = state::start();
-    let mut at: usize = 0;
-    while at < text.len() {
-        let end = lines::end_of(text, at);
-        s = turn(rt, file, s, &text[at..end], first, second, out)?;
-        at = lines::after(text, end);
+    for whole in text.split_inclusive(|c| *c == b'\n') {
+        let line = whole.strip_suffix(b"\n").unwrap_or(whole);
+        let before = s.tally;
+        s = read(s.entered(), line);
+        if before.differing < s.tally.differing {
+            say_differing(rt, s.line, line)?;
+        }
     }
     Ok(s.tally)
-}
-
-// The two tables that a file's lines fill, and the text that is written of them.
-fn replay(rt: &impl Print, file: File, text: &[u8]) -> io::Result<Tally> {
-    let mut first = [0u16; 1030];
-    let mut second = [0u16; 1030];
-    let mut out = [0u8; 4096];
-    walk(rt, file, text, &mut first, &mut second, &mut out)
 }
 
 // Room for the longest file of the list.
@@ -109,37 +52,62 @@ fn buffer() -> [u8; 600000]
 }
 
 fn say_tally(rt: &impl Print, name: &str, tally: Tally) -> io::Result<()> {
-    rt.print(name)?;
-    say(rt, b": ")?;
-    rt.print(tally.compared)?;
-    say(rt, b" compared, ")?;
-    rt.print(tally.listed)?;
-    say(rt, b" of them by a listed difference, ")?;
-    rt.print(tally.differing)?;
-    say(rt, b" differ\n")
+    println!(rt;
+        "{name}: {} compared, {} of them by a listed difference, {} differ",
+        tally.compared, tally.listed, tally.differing
+    )
 }
 
-fn report(rt: &(impl Files + Print), name: &str, file: File) -> io::Result<()> {
+fn report<F: FnMut(State, &[u8]) -> State>(
+    rt: &(impl Files + Print),
+    name: &str,
+    read: F,
+) -> io::Result<()>
+    requires { F.IsAlwaysCallable read }
+{
     let mut text = buffer();
     let n = inputs::read_file(rt, name, &mut text)?;
-    say_tally(rt, name, replay(rt, file, &text[..n])?)
+    say_tally(rt, name, replay(rt, &text[..n], read)?)
+}
+
+// The two tables that a file's lines fill, and the text that is written of them.
+fn report_texts(rt: &(impl Files + Print), name: &str) -> io::Result<()> {
+    let mut objects = [0u16; 1030];
+    let mut values = [0u16; 1030];
+    let mut out = [0u8; 4096];
+    report(rt, name, |s, line| {
+        texts::read(s, line, &mut objects, &mut values, &mut out)
+    })
+}
+
+fn report_segments(rt: &(impl Files + Print), name: &str) -> io::Result<()> {
+    let mut starts = [0u16; 1030];
+    report(rt, name, |s, line| starts::read(s, line, &mut starts))
+}
+
+fn report_evaluations(rt: &(impl Files + Print), name: &str) -> io::Result<()> {
+    let mut nodes = [0u16; 1030];
+    let mut labels = [0u16; 1030];
+    report(rt, name, |s, line| {
+        evaluations::read(s, line, &mut nodes, &mut labels)
+    })
 }
 
 fn list(rt: &(impl Files + Print)) -> io::Result<()> {
-    report(rt, "builds", File::Builds)?;
-    report(rt, "texts", File::Texts)?;
-    report(rt, "labels", File::Labels)?;
-    report(rt, "segments", File::Segments)?;
-    report(rt, "evaluations", File::Evaluations)
+    report(rt, "builds", builds::read)?;
+    report_texts(rt, "texts")?;
+    report(rt, "labels", labels::read)?;
+    report_segments(rt, "segments")?;
+    report_evaluations(rt, "evaluations")
 }
 
 // Of these every damage must be counted.
 fn damaged(rt: &(impl Files + Print)) -> io::Result<()> {
-    report(rt, "damaged/builds", File::Builds)?;
-    report(rt, "damaged/texts", File::Texts)?;
-    report(rt, "damaged/labels", File::Labels)?;
-    report(rt, "damaged/segments", File::Segments)?;
-    report(rt, "damaged/evaluations", File::Evaluations)
+    report(rt, "damaged/builds", builds::read)?;
+    report_texts(rt, "damaged/texts")?;
+    report(rt, "damaged/labels", labels::read)?;
+    report_segments(rt, "damaged/segments")?;
+    report_evaluations(rt, "damaged/evaluations")
 }
 
 fn main(rt: HostRuntime) -> io::Result<()> {

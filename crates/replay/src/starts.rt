@@ -1,14 +1,17 @@
 // Segments, a call a line: `n` begins anew, `a` START REFUSAL adds a start, `q` ADDRESS LEFT RIGHT asks for the segment of an address.
 use crate::lines::{four, two};
 use crate::state::State;
-use ground::tables::byte;
+use ground::tables::cell_or;
 
 fn add(mut s: State, line: &[u8], starts: &mut [u16]) -> State {
-    let added = segments::add(starts, s.rows, four(line, 1));
-    if added.refusal == 0 {
-        s.rows = added.count;
-    }
-    s.compared(!(added.refusal == two(line, 5)))
+    let number = match segments::add(starts, s.rows, four(line, 1)) {
+        Ok(count) => {
+            s.rows = count;
+            0
+        }
+        Err(why) => why.number(),
+    };
+    s.compared(number != two(line, 5))
 }
 
 fn ask(s: State, line: &[u8], starts: &[u16]) -> State {
@@ -22,7 +25,7 @@ fn anew(mut s: State) -> State {
 }
 
 pub(crate) fn read(s: State, line: &[u8], starts: &mut [u16]) -> State {
-    let kind = byte(line, 0);
+    let kind = cell_or(line, 0, 0);
     match kind {
         b'n' => anew(s),
         b'a' => add(s, line, starts),

@@ -2,7 +2,7 @@
 ghost use Rattle.std.specs.Prelude.{◌≤◌};
 ghost use Rattle.std.specs.Counts.{IsPrefixLen};
 
-use ground::buffers::store_cell;
+use ground::buffers::store;
 
 // Where the last row that a line stores may begin.
 pub(crate) const ROOM: usize = 1024;
@@ -10,7 +10,7 @@ pub(crate) const ROOM: usize = 1024;
 pub(crate) fn within(n: usize, most: usize) -> usize
     ensures { result ≤ most }
 {
-    if n < most { n } else { most }
+    n.min(most)
 }
 
 // How much of a table is in use, and no more than there is.
@@ -23,8 +23,8 @@ pub(crate) fn used(table: &[u16], n: usize) -> usize
 // Stores a row of three, and answers where the next one begins.
 pub(crate) fn store_row(table: &mut [u16], at: usize, a: u16, b: u16, c: u16) -> usize {
     let from = within(at, ROOM);
-    store_cell(table, from, a);
-    store_cell(table, from + 1, b);
-    store_cell(table, from + 2, c);
+    store(table, from, a);
+    store(table, from + 1, b);
+    store(table, from + 2, c);
     from + 3
 }

@@ -4,13 +4,13 @@
 use crate::lines::{four, two};
 use crate::state::State;
 use crate::tables::{ROOM, store_row, used, within};
-use ground::buffers::store_cell;
-use ground::tables::{byte, cell};
+use ground::buffers::store;
+use ground::tables::cell_or;
 use ground::words::add;
 
 // `o` has data, `n` has none.
 fn kind(line: &[u8]) -> u16 {
-    if byte(line, 0) == b'o' { 1 } else { 0 }
+    if cell_or(line, 0, 0) == b'o' { 1 } else { 0 }
 }
 
 fn object(mut s: State, line: &[u8], objects: &mut [u16]) -> State {
@@ -32,12 +32,12 @@ fn number(line: &[u8]) -> u16 {
 
 fn value(mut s: State, line: &[u8], objects: &mut [u16], values: &mut [u16]) -> State {
     let at = within(s.cells, ROOM);
-    store_cell(values, at, number(line));
-    store_cell(values, at + 1, width(line));
+    store(values, at, number(line));
+    store(values, at + 1, width(line));
     s.cells = at + 2;
     let rows = s.rows;
     if 3 <= rows {
-        store_cell(objects, rows - 1, add(cell(objects, rows - 1), 1));
+        store(objects, rows - 1, add(cell_or(objects, rows - 1, 0), 1));
     }
     s
 }
@@ -45,9 +45,10 @@ fn value(mut s: State, line: &[u8], objects: &mut [u16], values: &mut [u16]) -> 
 fn write(mut s: State, line: &[u8], objects: &[u16], values: &[u16], out: &mut [u8]) -> State {
     let rows = used(objects, s.rows);
     let cells = used(values, s.cells);
-    let written = records::write_text(&objects[..rows], &values[..cells], out);
-    s.sound = written.refusal == two(line, 1);
-    s.written = written.length;
+    let answer = records::write_text(&objects[..rows], &values[..cells], out);
+    let number = answer.err().map_or(0, |refusal| refusal.number());
+    s.sound = number == two(line, 1);
+    s.written = answer.unwrap_or(0);
     s.read = 0;
     s
 }
@@ -62,14 +63,8 @@ fn raised(c: u8) -> u8 {
 
 // The text begins with that line and a line feed.
 fn begins(text: &[u8], line: &[u8]) -> bool {
-    let mut i: usize = 0;
-    while i < line.len() {
-        if byte(text, i) != raised(line[i]) {
-            return false;
-        }
-        i += 1;
-    }
-    byte(text, i) == b'\n'
+    let rest = text.get(line.len()).copied();
+    rest == Some(b'\n') && text.iter().zip(line).all(|(t, c)| *t == raised(*c))
 }
 
 fn compare(mut s: State, line: &[u8], out: &[u8]) -> State {
@@ -98,7 +93,7 @@ pub(crate) fn read(
     values: &mut [u16],
     out: &mut [u8],
 ) -> State {
-    let kind = byte(line, 0);
+    let kind = cell_or(line, 0, 0);
     match kind {
         b'o' | b'n' => object(s, line, objects),
         b'=' => write(s, line, objects, values, out),

@@ -4,27 +4,32 @@ use borrow.Author.Tests.{eqb-true, eqb-false, leb-true, leb-false}
 use mathlib.Core.Path.{◌≡◌, refl, sym, ap, ◌∙◌}
 use mathlib.Core.Bool.{Bool, true, false}
 use mathlib.Core.List.{List, [], ◌∷◌}
-use Prim.Native.Nat.{ℕ, suc, ◌+◌, ◌-◌, ◌*◌, ◌≤◌, ◌<◌}
+use Prim.Native.Nat.{ℕ, suc, ◌+◌, ◌-◌, ◌*◌, ◌%◌, ◌≤◌, ◌<◌}
 use native.Mathlib.Nat.{add-zero, sub-zero}
 use native.Mathlib.Omega.{arith}
 use lib.Dec.{eqb, leb}
 use lib.ListN.{length, drop, length-drop}
+use Rattle.std.specs.Prelude.{Ok, Err}
 use Rattle.ground.specs.Choice.{pick}
 use Rattle.ground.proofs.Choices.{pick_true, pick_false}
 use Rattle.decoder.specs.declared.Origin.{Origin}
 use Rattle.decoder.specs.declared.Decoded.{Decoded}
 use Rattle.decoder.specs.Origin.{shifted, outside}
+use Rattle.decoder.specs.Meaning.{Answer}
 use Rattle.decoder.specs.Front.{front_of}
 use Rattle.decoder.specs.Run.{run_of, next_of}
 use Rattle.decoder.proofs.Origins.{inside}
 use Rattle.decoder.proofs.Runs.{accepted_size, run_at, next_refused, next_none, run_start, run_next}
 use Rattle.instruction.specs.declared.Record.{Record}
-use Rattle.laying.specs.Entries.{rows_in, entries_from, entries_of}
+use Rattle.laying.specs.Entries.{rows_in, entry_at, entries_from, entries_of}
+use Rattle.laying.specs.Laying.{built_at}
 use Rattle.laying.specs.Meant.{meanings_from}
 use Rattle.laying.proofs.Turns.{entries_next, entries_done}
+use Rattle.laying.proofs.Decodes.{read_length}
 use Rattle.roundtrip.specs.Same.{same, agreed, all_agree}
+use Rattle.roundtrip.specs.Comparing.{answer}
 use Rattle.roundtrip.specs.Steps.{meant_at, agreement}
-use Rattle.roundtrip.proofs.Same.{same_equal}
+use Rattle.roundtrip.proofs.Same.{same_equal, same_itself}
 
 -- ---- the instruction at a place of a run, and the run from there on
 module _ (l : List ℕ) (from : Origin) (at : ℕ) (q : outside l from ≡ false) where
@@ -32,24 +37,17 @@ module _ (l : List ℕ) (from : Origin) (at : ℕ) (q : outside l from ≡ false
   unfolding next_of pick
   front_there = rw q
 
-  -- an accepted one is followed by the run after it
-  goes_on_lem : (next_of l from at).refusal ≡ 0 → run_at l from at ≡ next_of l from at ∷ run_at l from (at + (next_of l from at).length)
-  goes_on_lem z = run_next l from at q z
-
-  stops : at < length l → ((next_of l from at).refusal ≡ 0 → ⊥) → run_at l from at ≡ next_of l from at ∷ []
-  stops h z = next_refused l from at (next_of l from at) front_there h z
-
-  -- it is the first, where there is one
-  heads : at < length l → (P : List Decoded → Type 0) → ((ds : List Decoded) → P (next_of l from at ∷ ds)) → P (run_at l from at)
-  heads h P f = by (eqb (next_of l from at).refusal 0) refl
+  -- it is the first of the run there, where there is one
+  heads : at < length l → (P : List Answer → Type 0) → ((ds : List Answer) → P (next_of l from at ∷ ds)) → P (run_at l from at)
+  heads h P f = by (next_of l from at) refl
     where
-      by : (t : Bool) → eqb (next_of l from at).refusal 0 ≡ t → P (run_at l from at)
-      by true t = rw (goes_on_lem (eqb-true (next_of l from at).refusal 0 t)) (f _)
-      by false t = rw (stops h (eqb-false (next_of l from at).refusal 0 t)) (f [])
+      by : (x : Answer) → next_of l from at ≡ x → P (run_at l from at)
+      by (Ok d) e = rw (run_next l from at d q e, ← e) (f _)
+      by (Err r) e = rw (next_refused l from at r (front_there ∙ e) h, ← e) (f [])
 
-  next_sized : at ≤ length l → (next_of l from at).refusal ≡ 0 → (1 ≤ (next_of l from at).length) × (at + (next_of l from at).length ≤ length l)
-  next_sized h z =
-      let s = accepted_size (drop at l) (shifted from at) (next_of l from at) front_there z in
+  next_sized : (d : Decoded) → at ≤ length l → next_of l from at ≡ Ok d → (1 ≤ d.length) × (at + d.length ≤ length l)
+  next_sized d h z =
+      let s = accepted_size (drop at l) (shifted from at) d (front_there ∙ z) in
       (s.0, omega (arith, length-drop at l))
 
 -- ---- side by side
@@ -88,14 +86,17 @@ module _ (list theirs : List ℕ) (from : Origin) (small : from.address < 65536)
   agreeing_near a = (omega (arith, a.other, inside theirs from q), omega (arith, a.rows))
 
   module _ (at place : ℕ) (a : Agreeing list theirs from at place) where
-    module _ (h : place < rows_in list) (m o : Decoded) (e : m ≡ meant_at list (place * 21) (from.address + at)) (f : o ≡ next_of theirs from at) where
+    module _ (h : place < rows_in list) (m : Decoded) (o : Answer) (e : m ≡ meant_at list (place * 21) (from.address + at)) (f : o ≡ next_of theirs from at) where
       mine_first : meanings_from (left_of list place) (from.address + at) ≡ m ∷ meanings_from (left_of list (place + 1)) (from.address + (at + m.length))
       unfolding meanings_from
       mine_first =
           let left = rows_in list - place in
           let next : entries_from (left - 1) list (place * 21 + 21) ≡ left_of list (place + 1) =
           ap (λ (n : ℕ). entries_from n list (place * 21 + 21)) (omega arith) ∙ ap (entries_from (rows_in list - (place + 1)) list) (omega arith) in
+          let entry = entry_at list (place * 21) in
           ap (λ (es : List Record). meanings_from es (from.address + at)) (entries_next left list (place * 21) (omega arith))
+          ∙ ap (λ (n : ℕ). meant_at list (place * 21) (from.address + at) ∷ meanings_from (entries_from (left - 1) list (place * 21 + 21)) (from.address + at + n))
+          (sym (read_length entry.values ((from.address + at) % 65536) (built_at entry (from.address + at))))
           ∙ ap (λ (d : Decoded). d ∷ meanings_from (entries_from (left - 1) list (place * 21 + 21)) (from.address + at + d.length)) (sym e)
           ∙ ap (λ (es : List Record). m ∷ meanings_from es (from.address + at + m.length)) next
           ∙ ap (λ (n : ℕ). m ∷ meanings_from (left_of list (place + 1)) n) (omega arith)
@@ -103,13 +104,10 @@ module _ (list theirs : List ℕ) (from : Origin) (small : from.address < 65536)
       -- both are the same, and both go on behind them
       pub agreeing_more : same m o ≡ true → Agreeing list theirs from (at + m.length) (place + 1)
       agreeing_more t =
-          let d : m ≡ o = same_equal m o t in
-          let n : m ≡ next_of theirs from at = d ∙ f in
-          let w : (next_of theirs from at).refusal ≡ 0 = sym (ap (λ (x : Decoded). x.refusal) n) ∙ ap (λ (x : Decoded). x.refusal) e in
-          let other_first : run_at theirs from at ≡ m ∷ run_at theirs from (at + m.length) = rw n (goes_on_lem theirs from at q w) in
-          let u = next_sized theirs from at q a.other w in
-          let l : m.length ≡ (next_of theirs from at).length = ap (λ (x : Decoded). x.length) n in
-          let itself : same m m ≡ true = ap (same m) d ∙ t in
+          let n : next_of theirs from at ≡ Ok m = sym f ∙ same_equal m o t in
+          let other_first = run_next theirs from at m q n in
+          let u = next_sized theirs from at q m a.other n in
+          let itself = same_itself m in
           let later = meanings_from (left_of list (place + 1)) (from.address + (at + m.length)) in
           let one : agreed (meanings_from (left_of list place) (from.address + at)) (run_at theirs from at) ≡ suc (agreed later (run_at theirs from (at + m.length))) =
           rw (mine_first, other_first) (pick_true _ _ itself) in
@@ -123,28 +121,28 @@ module _ (list theirs : List ℕ) (from : Origin) (small : from.address < 65536)
           }
 
       -- or they differ, or the run has ended
-      pub agreeing_differs : same m o ≡ false → record { all = false; place = place } ≡ agreement means (run_of theirs from)
+      pub agreeing_differs : same m o ≡ false → answer false place ≡ agreement means (run_of theirs from)
       agreeing_differs t =
           let mine = meanings_from (left_of list place) (from.address + at) in
-          let Apart : List Decoded → Type 0 = λ ds. (agreed mine ds ≡ 0) × (all_agree mine ds ≡ false) in
+          let Apart : List Answer → Type 0 = λ ds. (agreed mine ds ≡ 0) × (all_agree mine ds ≡ false) in
           let apart : Apart (run_at theirs from at) = by Apart (leb (length theirs) at) refl (rw mine_first (refl, refl)) (λ ds. rw (mine_first, ← f, t) (pick_false _ _ refl, refl)) in
           let b : agreed means (run_of theirs from) ≡ place = a.total ∙ omega (arith, apart.0) in
           let c : all_agree means (run_of theirs from) ≡ false = a.whole ∙ apart.1 in
           rw (b, c)
         where
           by :
-              (P : List Decoded → Type 0) (t : Bool) → leb (length theirs) at ≡ t → P [] → ((ds : List Decoded) → P (next_of theirs from at ∷ ds))
+              (P : List Answer → Type 0) (t : Bool) → leb (length theirs) at ≡ t → P [] → ((ds : List Answer) → P (next_of theirs from at ∷ ds))
               → P (run_at theirs from at)
           by P true u x y = rw (next_none theirs from at (leb-true (length theirs) at u)) x
           by P false u x y = heads theirs from at q (leb-false (length theirs) at u) P y
 
     -- no row is left: then all agree where nothing of the run is
-    pub agreeing_end : rows_in list ≤ place → record { all = eqb at (length theirs); place = place } ≡ agreement means (run_of theirs from)
+    pub agreeing_end : rows_in list ≤ place → answer (eqb at (length theirs)) (rows_in list) ≡ agreement means (run_of theirs from)
     unfolding meanings_from
     agreeing_end h =
         let e : meanings_from (left_of list place) (from.address + at) ≡ [] =
         ap (λ (es : List Record). meanings_from es (from.address + at)) (entries_done (rows_in list - place) list (place * 21) (omega arith)) in
-        let b : agreed means (run_of theirs from) ≡ place = a.total ∙ rw e (omega arith) in
+        let b : agreed means (run_of theirs from) ≡ rows_in list = a.total ∙ rw e (omega (arith, h, a.rows)) in
         let c : all_agree means (run_of theirs from) ≡ eqb at (length theirs) = a.whole ∙ rw e (last (eqb at (length theirs)) refl) in
         rw (b, c)
       where
@@ -154,4 +152,4 @@ module _ (list theirs : List ℕ) (from : Origin) (small : from.address < 65536)
             rw (next_none theirs from at (omega arith)) refl
         last false t =
             let g = eqb-false at (length theirs) t in
-            heads theirs from at q (omega (arith, a.other)) (λ (ds : List Decoded). all_agree [] ds ≡ false) (λ ds. refl)
+            heads theirs from at q (omega (arith, a.other)) (λ (ds : List Answer). all_agree [] ds ≡ false) (λ ds. refl)

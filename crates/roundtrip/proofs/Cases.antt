@@ -6,7 +6,10 @@ use mathlib.Core.Bool.{true, false}
 use mathlib.Core.List.{List, [], ◌∷◌, ◌++◌, map}
 use Prim.Native.Nat.{ℕ}
 use lib.ListN.{replicate}
+use Rattle.std.specs.Prelude.{Result, Ok, Err}
 use Rattle.ground.specs.Choice.{pick}
+use Rattle.ground.specs.declared.refusals.Refusal.{Refusal}
+use Rattle.ground.specs.declared.refusals.Refusal.TheVariants as refusal
 use Rattle.values.specs.Widths.{bits_of, extended, valid_of, sign_extended_of}
 use Rattle.values.specs.declared.pages.Page.{Page}
 use Rattle.values.specs.declared.pages.Page.TheVariants.{Unknown, Known}
@@ -21,11 +24,11 @@ use Rattle.instruction.specs.Records.{stepped, recognised, narrower, agreeing, l
 use Rattle.instruction.specs.Forms.{becomes_direct, extended_form, register_form, form_of, strays, lacks, needs_value}
 use Rattle.instruction.specs.Choosing.{inherent_of, anew_as, anew_of, address_of, accumulator_index, offset_value, offset_index, target_index, index_of, choose_of}
 use Rattle.instruction.specs.Bytes.{number_bytes, operand_bytes, code_size, behind_code, laid_at, laid_of}
-use Rattle.instruction.specs.Building.{instruction_of, made_as, make_of, early_of, dirties_of, accepted_of, finished_of, build_of, handed, fresh_from, fresh_of}
+use Rattle.instruction.specs.Building.{instruction_of, made_as, make_of, early_of, dirties_of, accepted_of, tried_of, fresh_of}
 use Rattle.meanings.specs.Means.{offset_in, offset_kind, index_kind, kind_of, operation_of, meaning_of}
 use Rattle.entries.specs.Entries.{byte_in, is_flag, flag_in, is_page_in, page_in, flagged_in, registers_in, fields_in, told_in, value_in, values_in, all_flagged, entry_of}
 use Rattle.laying.specs.Entries.{entry_at, rows_in, entries_from, entries_of}
-use Rattle.laying.specs.Laying.{Outcome, Bytes, built_at, refusal_at, lay_from, lay_of}
+use Rattle.laying.specs.Laying.{built_at, lay_from, lay_of}
 use Rattle.laying.specs.Meant.{meanings_from}
 use Rattle.records.specs.Hex.{hex_of}
 use Rattle.records.specs.Line.{check_of, body, line}
@@ -41,8 +44,7 @@ use Rattle.decoder.specs.Meaning.{joined}
 use Rattle.decoder.specs.Operands.{number_of, numbered_of, numbered_at, indexed_as, indexed_at, operand_of}
 use Rattle.decoder.specs.Front.{coded_of, front_of}
 use Rattle.decoder.specs.Run.{run_from, run_of}
-use Rattle.roundtrip.specs.Same.{same_parts, same_meaning, same}
-use Rattle.roundtrip.specs.Comparing.{refused, answer, text_against, compare_of}
+use Rattle.roundtrip.specs.Comparing.{answer, text_against, compare_of}
 use Rattle.roundtrip.specs.declared.Compared.{Compared}
 
 abbrev list : List ℕ
@@ -72,7 +74,7 @@ pub data Question : Type 0 where
   compare : List ℕ → ℕ → List ℕ → Question
   under : Page → List ℕ → ℕ → List ℕ → Question
 
-abbrev ask : Question → Compared
+abbrev ask : Question → Result Compared Refusal
 ask (compare l address text) = compare_of l address (Known 0) text
 ask (under page l address text) = compare_of l address page text
 
@@ -122,50 +124,50 @@ asked =
     ∷ under (Known 0x20) (high ++ memory 0x20 0x0005) 0x0100 (at 0x0100 (0x96 ∷ 0x05 ∷ 0xB6 ∷ 0x00 ∷ 0x05 ∷ []))
     ∷ []
 
-abbrev answered : List Compared
+abbrev answered : List (Result Compared Refusal)
 answered =
-    answer true 2
-    ∷ answer true 2
-    ∷ answer false 0
-    ∷ answer false 0
-    ∷ answer false 1
-    ∷ answer false 0
-    ∷ answer false 2
-    ∷ answer false 1
-    ∷ answer false 1
-    ∷ answer true 1
-    ∷ answer true 1
-    ∷ answer false 0
-    ∷ answer false 2
-    ∷ answer true 0
-    ∷ answer false 0
-    ∷ refused 16
-    ∷ refused 18
-    ∷ refused 18
-    ∷ refused 17
-    ∷ answer true 1
-    ∷ answer false 0
-    ∷ answer false 0
-    ∷ answer true 1
-    ∷ answer false 0
-    ∷ answer true 2
-    ∷ answer false 1
-    ∷ answer true 2
+    Ok (answer true 2)
+    ∷ Ok (answer true 2)
+    ∷ Ok (answer false 0)
+    ∷ Ok (answer false 0)
+    ∷ Ok (answer false 1)
+    ∷ Ok (answer false 0)
+    ∷ Ok (answer false 2)
+    ∷ Ok (answer false 1)
+    ∷ Ok (answer false 1)
+    ∷ Ok (answer true 1)
+    ∷ Ok (answer true 1)
+    ∷ Ok (answer false 0)
+    ∷ Ok (answer false 2)
+    ∷ Ok (answer true 0)
+    ∷ Ok (answer false 0)
+    ∷ Err refusal.BrokenText
+    ∷ Err refusal.Beyond
+    ∷ Err refusal.Beyond
+    ∷ Err refusal.OverLimit
+    ∷ Ok (answer true 1)
+    ∷ Ok (answer false 0)
+    ∷ Ok (answer false 0)
+    ∷ Ok (answer true 1)
+    ∷ Ok (answer false 0)
+    ∷ Ok (answer true 2)
+    ∷ Ok (answer false 1)
+    ∷ Ok (answer true 2)
     ∷ []
 
 -- "its last sentence holds for two lists laid under the same page": low and high are laid as the same bytes, and mean two things
-abbrev laid : List ℕ → Outcome
+abbrev laid : List ℕ → Result (List ℕ) Refusal
 laid l = lay_of l 0x0100 2
 
 abbrev means : List ℕ → List Decoded
 means l = meanings_from (entries_of l) 0x0100
 
 abbrev loads : ℕ → List Decoded
-loads address = record { refusal = 0; length = 2; meaning = record { operation = 54; kind = Memory address } } ∷ []
+loads address = record { length = 2; meaning = record { operation = 54; kind = Memory address } } ∷ []
 
 pub cases :
     (map ask asked ≡ answered)
-    × (map laid (low ∷ high ∷ []) ≡ Bytes (0x96 ∷ 0x05 ∷ []) ∷ Bytes (0x96 ∷ 0x05 ∷ []) ∷ [])
+    × (map laid (low ∷ high ∷ []) ≡ Ok (0x96 ∷ 0x05 ∷ []) ∷ Ok (0x96 ∷ 0x05 ∷ []) ∷ [])
     × (map means (low ∷ high ∷ []) ≡ loads 0x0005 ∷ loads 0x2005 ∷ [])
-unfolding pick bits_of extended valid_of sign_extended_of is_page page_numbered table_of page0 page10 page11 merged_of placed has_form_of known_of code_of row_of is_wide is_long number_at number_size_of any_unknown strange_list direct_only address_only high_of shape_of marked constant_of offset_of relative_of stepped recognised narrower agreeing lawful sound becomes_direct extended_form register_form form_of strays lacks needs_value inherent_of anew_as anew_of address_of accumulator_index offset_value offset_index target_index index_of choose_of number_bytes operand_bytes code_size behind_code laid_at laid_of instruction_of made_as make_of early_of dirties_of accepted_of finished_of build_of handed fresh_from fresh_of offset_in offset_kind index_kind kind_of operation_of meaning_of byte_in is_flag flag_in is_page_in page_in flagged_in registers_in fields_in told_in value_in values_in all_flagged entry_of entry_at rows_in entries_from entries_of built_at refusal_at lay_from lay_of meanings_from hex_of check_of body line digit_of pair_of behind count_of lines.address_of lines.sound type_of data_of ends_line after_end record_of line_in records_in runs_in shifted outside target_of direct_of unseen joined number_of numbered_of numbered_at indexed_as indexed_at operand_of coded_of front_of run_from run_of same_parts same_meaning same text_against compare_of
+unfolding pick bits_of extended valid_of sign_extended_of is_page page_numbered table_of page0 page10 page11 merged_of placed has_form_of known_of code_of row_of is_wide is_long number_at number_size_of any_unknown strange_list direct_only address_only high_of shape_of marked constant_of offset_of relative_of stepped recognised narrower agreeing lawful sound becomes_direct extended_form register_form form_of strays lacks needs_value inherent_of anew_as anew_of address_of accumulator_index offset_value offset_index target_index index_of choose_of number_bytes operand_bytes code_size behind_code laid_at laid_of instruction_of made_as make_of early_of dirties_of accepted_of tried_of fresh_of offset_in offset_kind index_kind kind_of operation_of meaning_of byte_in is_flag flag_in is_page_in page_in flagged_in registers_in fields_in told_in value_in values_in all_flagged entry_of entry_at rows_in entries_from entries_of built_at lay_from lay_of meanings_from hex_of check_of body line digit_of pair_of behind count_of lines.address_of lines.sound type_of data_of ends_line after_end record_of line_in records_in runs_in shifted outside target_of direct_of unseen joined number_of numbered_of numbered_at indexed_as indexed_at operand_of coded_of front_of run_from run_of text_against compare_of
 cases = (refl, refl, refl)

@@ -7,6 +7,7 @@ use mathlib.Core.List.{List, [], ◌∷◌, append-nil}
 use Prim.Native.Nat.{ℕ, zero, suc, ◌+◌, ◌%◌, ◌≤◌, ◌<◌}
 use native.Mathlib.Omega.{arith}
 use lib.ListN.{length}
+use Rattle.std.specs.Prelude.{Ok}
 use Rattle.ground.proofs.Choices.{pick_false}
 use Rattle.values.specs.declared.pages.Page.{Page}
 use Rattle.values.specs.Pages.{meets}
@@ -18,16 +19,16 @@ use Rattle.reader.specs.Answers.{runs_in}
 use Rattle.decoder.specs.Origin.{origin, outside}
 use Rattle.decoder.specs.Run.{run_from, run_of, refusal_in, total_of}
 use Rattle.instruction.specs.declared.Record.{Record}
-use Rattle.instruction.specs.Building.{bytes_in}
+use Rattle.instruction.specs.Building.{bytes_told, size_told}
 use Rattle.laying.specs.Entries.{rows_in, entries_from, entries_of}
-use Rattle.laying.specs.Laying as laying
 use Rattle.laying.specs.Laying.{built_at, lay_from, lay_of}
 use Rattle.laying.specs.Exactly.{bytes_from}
-use Rattle.laying.specs.Meant.{all_meet}
+use Rattle.laying.specs.Meant.{meanings_from, all_meet}
 use Rattle.laying.proofs.Exactly.{fits_laid, laid_exactly}
 use Rattle.laying.proofs.Decodes.{laid_decodes, laid_whole}
 use Rattle.roundtrip.specs.Demand.{decoded_in, back_from, DemandThree, TextsTell, OnePage, DemandOnePage, TextsTellOnePage}
 use Rattle.entries.proofs.Small.{fresh_bytes}
+use Rattle.roundtrip.proofs.Same.{read_tells}
 use Rattle.roundtrip.proofs.Written.{object_written, object_run, object_read}
 
 -- ---- what was laid
@@ -35,8 +36,8 @@ laid_bytes : (entries : List Record) (at : ℕ) → Bytes (bytes_from entries at
 unfolding bytes_from built_at
 laid_bytes [] at = tt
 laid_bytes (entry ∷ entries) at =
-    bytes_append (bytes_in (built_at entry at)) (bytes_from entries (at + (built_at entry at).length))
-    (fresh_bytes entry (at % 65536)) (laid_bytes entries (at + (built_at entry at).length))
+    bytes_append (bytes_told (built_at entry at)) (bytes_from entries (at + size_told (built_at entry at)))
+    (fresh_bytes entry (at % 65536)) (laid_bytes entries (at + size_told (built_at entry at)))
 
 rows_many : (rows : ℕ) (list : List ℕ) (at : ℕ) → length (entries_from rows list at) ≡ rows
 unfolding entries_from
@@ -57,16 +58,16 @@ one_decoded page address (b ∷ bytes) h = append-nil (run_of (b ∷ bytes) (ori
 pub record Taken (list : List ℕ) (address room : ℕ) (bytes : List ℕ) : Type 0 where
   pub small : Bytes bytes
   pub near : address + length bytes ≤ 65536
-  pub laid : lay_from (entries_of list) address room ≡ laying.Bytes bytes
+  pub laid : lay_from (entries_of list) address room ≡ Ok bytes
 
-pub laid_taken : (list : List ℕ) (address room : ℕ) (bytes : List ℕ) → address < 65536 → lay_of list address room ≡ laying.Bytes bytes → Taken list address room bytes
+pub laid_taken : (list : List ℕ) (address room : ℕ) (bytes : List ℕ) → address < 65536 → lay_of list address room ≡ Ok bytes → Taken list address room bytes
 laid_taken list address room bytes h e =
     let entries = entries_of list in
     let exact = (laid_exactly list address room (omega arith) bytes).0 e in
     record {
       small = rw exact.2 (laid_bytes entries address);
       near = omega (arith, exact.1.within, ap length exact.2);
-      laid = fits_laid entries address room exact.1 ∙ ap laying.Bytes (sym exact.2);
+      laid = fits_laid entries address room exact.1 ∙ ap Ok (sym exact.2);
     }
 
 pub demand_three : DemandThree
@@ -107,7 +108,8 @@ texts_tell page xs ys a b roomx roomy these those ha hb ma mb ea eb t =
     let q = demand_three page ys b roomy those hb mb eb in
     let s = same_run a b these those (sym p.run ∙ ap runs_in t ∙ q.run) in
     record {
-      means = sym p.same ∙ ap (λ (text : List ℕ). decoded_in page (runs_in text)) t ∙ q.same;
+      means = read_tells (meanings_from (entries_of xs) a) (meanings_from (entries_of ys) b)
+          (sym p.same ∙ ap (λ (text : List ℕ). decoded_in page (runs_in text)) t ∙ q.same);
       bytes = s.bytes;
       place = s.place;
     }

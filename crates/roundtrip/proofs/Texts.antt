@@ -1,22 +1,25 @@
 -- The first run of a text as the run reader hands it out with room for any run, and what the comparison with it comes to.
 -- Assumes nothing.
-use borrow.Author.Tests.{eq-eqb, ne_eqb, eqb-true, eqb-false, le-ltb}
+use borrow.Author.Tests.{eq-eqb, ne_eqb, le-ltb}
 use mathlib.Core.Path.{◌≡◌, refl, sym, ap, ◌∙◌}
-use mathlib.Core.Bool.{Bool, true, false, ◌&&◌}
+use mathlib.Core.Bool.{Bool, false, ◌&&◌}
 use mathlib.Core.List.{List, [], ◌∷◌}
 use Prim.Native.Nat.{ℕ, ◌+◌, ◌/◌, ◌≤◌, ◌<◌}
 use native.Mathlib.Omega.{arith}
-use lib.Dec.{eqb, ltb}
+use lib.Dec.{eqb}
 use lib.ListN.{length, take, drop, length-append}
 use lib.Seq.{take_at}
-use Rattle.ground.proofs.Choices.{pick_true, pick_false, by_pick}
+use Rattle.std.specs.Prelude.{Result, Ok, Err}
+use Rattle.ground.specs.declared.refusals.Refusal.{Refusal}
+use Rattle.ground.proofs.Choices.{pick_true, pick_false}
 use Rattle.records.specs.Text.{Rec}
 use Rattle.reader.specs.Lines.{records_in}
 use Rattle.reader.specs.Answers.{size_of, runs_in, onto}
-use Rattle.reader.specs.Ahead.{refused_run, asked_of, room_run, read_run_of, RunReadIs}
-use Rattle.reader.specs.Held.{HandsOut}
+use Rattle.reader.specs.Ahead.{asked_of, RunReadIs}
+use Rattle.reader.specs.Held.{Hands, HandsOut}
+use Rattle.reader.specs.declared.Read.{Read}
 use Rattle.reader.specs.declared.runs.Run.{Run}
-use Rattle.reader.proofs.Handing.{Near, asked_near}
+use Rattle.reader.proofs.Handing.{same_run, no_run_lem, read_asked, read_near}
 use Rattle.reader.proofs.Same.{held_same, held_refused}
 use Rattle.reader.proofs.Only.{read_run_only}
 use Rattle.values.specs.declared.pages.Page.{Page}
@@ -24,93 +27,89 @@ use Rattle.decoder.specs.declared.Decoded.{Decoded}
 use Rattle.decoder.specs.Origin.{origin, outside}
 use Rattle.decoder.specs.Run.{run_of}
 use Rattle.laying.specs.Entries.{rows_in, entries_of}
-use Rattle.laying.specs.Laying.{Outcome, Refused, Bytes, lay_of, answer_of}
+use Rattle.laying.specs.Laying.{lay_of, answer_of}
 use Rattle.laying.specs.Meant.{meanings_from}
-use Rattle.laying.specs.declared.Laid.{Laid}
-use Rattle.laying.proofs.Exactly.{zero_exactly}
+use Rattle.laying.proofs.Outcomes.{answered_of, refused_of}
 use Rattle.laying.proofs.Decodes.{as_many}
 use Rattle.roundtrip.specs.Same.{all_agree}
-use Rattle.roundtrip.specs.Comparing.{refused, answer, none, against, text_against, all_room, compared_as, compare_of}
-use Rattle.roundtrip.specs.Steps.{agreement}
+use Rattle.roundtrip.specs.Comparing.{answer, none, against, text_against, all_room, compared_as, compare_of}
+use Rattle.roundtrip.specs.Steps.{agreement, none_left}
 use Rattle.roundtrip.specs.declared.Compared.{Compared}
-use Rattle.roundtrip.specs.declared.comparing.Agreement.{Agreement}
 use Rattle.roundtrip.proofs.Demand.{entries_many}
 
 -- ---- what the run reader answers
-read_near : (text : List ℕ) (at room : ℕ) → Near (read_run_of text at room)
-unfolding read_run_of room_run
-read_near text at room = by_pick Near (ltb room (asked_of text at).bytes) (omega arith) (asked_near text at)
-
--- an answer that is no refusal is the run asked for
-read_asked : (text : List ℕ) (at room : ℕ) → (read_run_of text at room).refusal ≡ 0 → read_run_of text at room ≡ asked_of text at
-unfolding read_run_of room_run
-read_asked text at room =
-    by_pick (λ (r : Run). r.refusal ≡ 0 → r ≡ asked_of text at) (ltb room (asked_of text at).bytes) (λ z. absurd (omega arith)) (λ _. refl)
-
-hands_asked : {text d e : List ℕ} {at : ℕ} (r : Run) → r.refusal ≡ 0 → RunReadIs text at d r e → asked_of text at ≡ r
-hands_asked {text} {d} {e} {at} r z w =
-    let a = w.answer in
-    sym (read_asked text at (length d) (sym (ap (λ (x : Run). x.refusal) a) ∙ z)) ∙ sym a
+hands_asked : {text d e : List ℕ} {at : ℕ} (r : Run) → RunReadIs text at d (Ok r) e → asked_of text at ≡ Ok r
+hands_asked {text} {d} {e} {at} r w = read_asked text at (length d) r (sym w.answer)
 
 -- a run stands at the place after the first where there is a second
-later_asked : (text : List ℕ) (next : ℕ) (ps : List Rec) → HandsOut text next ps → eqb (asked_of text next).bytes 0 ≡ none ps
-later_asked text next [] h =
-    eq-eqb (asked_of text next).bytes 0 (ap (λ (r : Run). r.bytes) (hands_asked (record { refusal = 0; address = 0; bytes = 0; next = next }) refl (h [])))
+later_asked : (text : List ℕ) (next : ℕ) (ps : List Rec) → HandsOut text next ps → none_left (asked_of text next) ≡ none ps
+later_asked text next [] h = ap none_left (hands_asked _ (h []))
 later_asked text next (p ∷ ps) h =
-    let some = h.0.some in
-    let e = ap (λ (r : Run). r.bytes) (hands_asked _ refl (h.0.call p.bytes (omega arith))) in
-    ne_eqb (asked_of text next).bytes 0 (λ z. omega arith)
+    ap none_left (hands_asked _ (h.first.call p.bytes (omega arith))) ∙ ne_eqb (length p.bytes) 0 (λ z. omega (arith, h.first.some))
 
 -- ---- the first run of a text, with room for any
 pub record There (text d : List ℕ) (r : Run) (e : List ℕ) : Type 0 where
   pub run : Rec
   pub later : List Rec
   pub runs : runs_in text ≡ run ∷ later
-  pub accepted : r.refusal ≡ 0
   pub address : r.address ≡ run.address
   pub size : r.bytes ≡ length run.bytes
   pub some : 0 < length run.bytes
   pub near : run.address + length run.bytes ≤ 65536
   pub stored : e ≡ onto run.bytes d
-  pub alone : eqb (asked_of text r.next).bytes 0 ≡ none later
+  pub alone : none_left (asked_of text r.next) ≡ none later
 
 pub data First (text d : List ℕ) (r : Run) (e : List ℕ) : Type 0 where
-  broken : ((size_of (records_in text)).refusal ≡ 0 → ⊥) → r ≡ refused_run (size_of (records_in text)).refusal → First text d r e
-  empty : (size_of (records_in text)).refusal ≡ 0 → runs_in text ≡ [] → r ≡ record { refusal = 0; address = 0; bytes = 0; next = 0 } → First text d r e
-  there : (size_of (records_in text)).refusal ≡ 0 → There text d r e → First text d r e
+  empty : (size : Read) → size_of (records_in text) ≡ Ok size → runs_in text ≡ [] → r ≡ record { address = 0; bytes = 0; next = 0 } → First text d r e
+  there : (size : Read) → size_of (records_in text) ≡ Ok size → There text d r e → First text d r e
 
-module _ (text d : List ℕ) (r : Run) (e : List ℕ) (room : 65536 ≤ length d) (w : RunReadIs text 0 d r e) where
-  there_is : (p : Rec) (ps : List Rec) → runs_in text ≡ p ∷ ps → HandsOut text 0 (p ∷ ps) → There text d r e
-  there_is p ps q h =
-      let full = (h.0.call p.bytes (omega arith)).answer in
-      let near : p.address + length p.bytes ≤ 65536 = rw (← full) at (read_near text 0 (length p.bytes)) in
-      let only = read_run_only w (h.0.call d (omega arith)) in
-      let is = only.0 in
-      record {
-        run = p;
-        later = ps;
-        runs = q;
-        accepted = ap (λ (x : Run). x.refusal) is;
-        address = ap (λ (x : Run). x.address) is;
-        size = ap (λ (x : Run). x.bytes) is;
-        some = h.0.some;
-        near = near;
-        stored = only.1;
-        alone = ap (λ (x : Run). eqb (asked_of text x.next).bytes 0) is ∙ later_asked text (asked_of text 0).next ps h.1;
-      }
+module _ (text d e : List ℕ) (room : 65536 ≤ length d) where
+  call_near : (p : Rec) (next : ℕ) → Hands text 0 p next → p.address + length p.bytes ≤ 65536
+  call_near p next h = let full = (h.call p.bytes (omega arith)).answer in rw (← full) at (read_near text 0 (length p.bytes))
 
-  pub first_run : First text d r e
-  first_run = by (eqb (size_of (records_in text)).refusal 0) refl
-    where
-      runs : (size_of (records_in text)).refusal ≡ 0 → (rs : List Rec) → runs_in text ≡ rs → HandsOut text 0 rs → First text d r e
-      runs z [] q h = empty z q (read_run_only w (h d)).0
-      runs z (p ∷ ps) q h = there z (there_is p ps q h)
+  module _ (r : Run) (w : RunReadIs text 0 d (Ok r) e) where
+    there_is : (p : Rec) (ps : List Rec) → runs_in text ≡ p ∷ ps → HandsOut text 0 (p ∷ ps) → There text d r e
+    there_is p ps q h =
+        let near = call_near p h.next h.first in
+        let only = read_run_only w (h.first.call d (omega arith)) in
+        let is = same_run r _ only.0 in
+        record {
+          run = p;
+          later = ps;
+          runs = q;
+          address = ap (λ (x : Run). x.address) is;
+          size = ap (λ (x : Run). x.bytes) is;
+          some = h.first.some;
+          near = near;
+          stored = only.1;
+          alone = ap (λ (x : Run). none_left (asked_of text x.next)) is ∙ later_asked text h.next ps h.later;
+        }
 
-      by : (t : Bool) → eqb (size_of (records_in text)).refusal 0 ≡ t → First text d r e
-      by true t = let z = eqb-true (size_of (records_in text)).refusal 0 t in runs z (runs_in text) refl (held_same text z)
-      by false t =
-          let z = eqb-false (size_of (records_in text)).refusal 0 t in
-          broken z (read_run_only w ((held_refused text z).here d)).0
+    pub first_run : First text d r e
+    first_run = by (size_of (records_in text)) refl
+      where
+        runs : (size : Read) → size_of (records_in text) ≡ Ok size → (rs : List Rec) → runs_in text ≡ rs → HandsOut text 0 rs → First text d r e
+        runs size z [] q h = empty size z q (same_run r _ (read_run_only w (h d)).0)
+        runs size z (p ∷ ps) q h = there size z (there_is p ps q h)
+
+        by : (s : Result Read Refusal) → size_of (records_in text) ≡ s → First text d r e
+        by (Ok size) z = runs size z (runs_in text) refl (held_same text size z)
+        by (Err x) z = no_run_lem x r (sym (read_run_only w ((held_refused text x z).here d)).0)
+
+  -- a refusal is the text's own
+  module _ (x : Refusal) (w : RunReadIs text 0 d (Err x) e) where
+    pub first_refused : size_of (records_in text) ≡ Err x
+    first_refused = by (size_of (records_in text)) refl
+      where
+        none_handed : (rs : List Rec) → HandsOut text 0 rs → {A : Type 0} → A
+        none_handed [] h = no_run_lem x _ (read_run_only w (h d)).0
+        none_handed (p ∷ ps) h =
+            let near = call_near p h.next h.first in
+            no_run_lem x _ (read_run_only w (h.first.call d (omega arith))).0
+
+        by : (s : Result Read Refusal) → size_of (records_in text) ≡ s → size_of (records_in text) ≡ Err x
+        by (Ok size) z = none_handed (runs_in text) (held_same text size z)
+        by (Err y) z = let q = (read_run_only w ((held_refused text y z).here d)).0 in z ∙ cc
 
 -- ---- the comparison with it
 -- nothing agrees with no instruction but a list with no row
@@ -124,12 +123,6 @@ nothing_means list address =
     nothing_agrees (meanings_from (entries_of list) address) ∙ ap (λ (n : ℕ). eqb n 0) (as_many (entries_of list) address ∙ entries_many list)
 
 module _ (text d : List ℕ) (r : Run) (e : List ℕ) where
-  -- no refusal, so one of the other two
-  by_run : {A : Type 0} → First text d r e → r.refusal ≡ 0 → ((size_of (records_in text)).refusal ≡ 0 → runs_in text ≡ [] → r.bytes ≡ 0 → A) → ((size_of (records_in text)).refusal ≡ 0 → There text d r e → A) → A
-  by_run (broken n q) z f g = absurd (n (sym (ap (λ (x : Run). x.refusal) q) ∙ z))
-  by_run (empty n q k) z f g = f n q (ap (λ (x : Run). x.bytes) k)
-  by_run (there n t) z f g = g n t
-
   -- the front of the scratch holds the run
   front_holds : (t : There text d r e) → take r.bytes e ≡ t.run.bytes
   unfolding onto
@@ -137,72 +130,62 @@ module _ (text d : List ℕ) (r : Run) (e : List ℕ) where
 
   pub run_fits : First text d r e → r.bytes ≤ length e
   unfolding onto
-  run_fits (broken n q) = let b = ap (λ (x : Run). x.bytes) q in omega arith
-  run_fits (empty n q k) = let b = ap (λ (x : Run). x.bytes) k in omega arith
-  run_fits (there n t) =
+  run_fits (empty n z q k) = let b = ap (λ (x : Run). x.bytes) k in omega arith
+  run_fits (there n z t) =
       let s = ap length t.stored in
       omega (arith, t.size, length-append t.run.bytes (drop (length t.run.bytes) d))
 
-  pub run_inside : (address : ℕ) (page : Page) → First text d r e → r.refusal ≡ 0 → (r.bytes ≡ 0 → ⊥) → r.address ≡ address → outside (take r.bytes e) (origin address page) ≡ false
+  pub run_inside : (address : ℕ) (page : Page) → First text d r e → (r.bytes ≡ 0 → ⊥) → r.address ≡ address → outside (take r.bytes e) (origin address page) ≡ false
   unfolding outside
-  run_inside address page w z n k =
-      by_run w z (λ _ _ b. absurd (n b))
-      (λ m t. rw (front_holds t) (le-ltb 65536 (address + length t.run.bytes) (omega (arith, t.near, t.address))))
+  run_inside address page (empty n z q b) m k = absurd (m (ap (λ (x : Run). x.bytes) b))
+  run_inside address page (there n z t) m k = rw (front_holds t) (le-ltb 65536 (address + length t.run.bytes) (omega (arith, t.near, t.address)))
 
-module _ (list : List ℕ) (address : ℕ) (page : Page) (text d : List ℕ) (r : Run) (e : List ℕ) where
+module _ (list : List ℕ) (address : ℕ) (page : Page) (text d : List ℕ) where
   abbrev means : List Decoded
   means = meanings_from (entries_of list) address
 
-  abbrev Is : Compared → Type 0
+  abbrev Is : Result Compared Refusal → Type 0
   Is x = x ≡ text_against means address page text
 
-  fine : (rs : List Rec) → (size_of (records_in text)).refusal ≡ 0 → runs_in text ≡ rs → text_against means address page text ≡ against means address page rs
+  fine : (rs : List Rec) (size : Read) → size_of (records_in text) ≡ Ok size → runs_in text ≡ rs → text_against means address page text ≡ Ok (against means address page rs)
   unfolding text_against
-  fine rs z q = pick_true _ _ (eq-eqb (size_of (records_in text)).refusal 0 z) ∙ ap (against means address page) q
+  fine rs size z q = rw (z, q)
 
-  pub is_refused : First text d r e → (r.refusal ≡ 0 → ⊥) → Is (refused r.refusal)
+  pub is_refused : (x : Refusal) → size_of (records_in text) ≡ Err x → Is (Err x)
   unfolding text_against
-  is_refused (broken n q) z = ap (λ (x : Run). refused x.refusal) q ∙ sym (pick_false _ _ (ne_eqb (size_of (records_in text)).refusal 0 n))
-  is_refused (empty n q k) z = absurd (z (ap (λ (x : Run). x.refusal) k))
-  is_refused (there n t) z = absurd (z t.accepted)
+  is_refused x z = rw z
 
-  pub is_none : First text d r e → r.refusal ≡ 0 → r.bytes ≡ 0 → Is (answer (eqb (length list / 21) 0) 0)
-  is_none w z n =
-      by_run text d r e w z
-      (λ m q _. ap (λ (t : Bool). answer t 0) (sym (nothing_means list address)) ∙ sym (fine [] m q))
-      (λ m t. absurd (omega (arith, t.some, t.size)))
+  module _ (r : Run) (e : List ℕ) where
+    pub is_none : First text d r e → r.bytes ≡ 0 → Is (Ok (answer (eqb (length list / 21) 0) 0))
+    is_none (empty size z q k) n = ap (λ (t : Bool). Ok (answer t 0)) (sym (nothing_means list address)) ∙ sym (fine [] size z q)
+    is_none (there size z t) n = absurd (omega (arith, n, t.some, t.size))
 
-  pub is_elsewhere_lem : First text d r e → r.refusal ≡ 0 → (r.bytes ≡ 0 → ⊥) → (r.address ≡ address → ⊥) → Is (answer false 0)
-  is_elsewhere_lem w z n k =
-      by_run text d r e w z (λ _ _ b. absurd (n b))
-      (λ m t. sym (fine (t.run ∷ t.later) m t.runs ∙ pick_false _ _ (ne_eqb t.run.address address (λ s. k (t.address ∙ s)))))
+    pub is_elsewhere_lem : First text d r e → (r.bytes ≡ 0 → ⊥) → (r.address ≡ address → ⊥) → Is (Ok (answer false 0))
+    is_elsewhere_lem (empty size z q k) n m = absurd (n (ap (λ (x : Run). x.bytes) k))
+    is_elsewhere_lem (there size z t) n m =
+        sym (fine (t.run ∷ t.later) size z t.runs ∙ ap Ok (pick_false _ _ (ne_eqb t.run.address address (λ s. m (t.address ∙ s)))))
 
-  pub is_there :
-      First text d r e → r.refusal ≡ 0 → (r.bytes ≡ 0 → ⊥) → r.address ≡ address →
-      (a : Agreement) → a ≡ agreement means (run_of (take r.bytes e) (origin address page)) → (later : Run) → later ≡ asked_of text r.next →
-      Is (answer (a.all && eqb later.bytes 0) a.place)
-  is_there w z n k a f later g =
-      by_run text d r e w z (λ _ _ b. absurd (n b))
-      (λ m t.
-      let is : a ≡ agreement means (run_of t.run.bytes (origin address page)) = f ∙ ap (λ (l : List ℕ). agreement means (run_of l (origin address page))) (front_holds text d r e t) in
-      let last : eqb later.bytes 0 ≡ none t.later = ap (λ (x : Run). eqb x.bytes 0) g ∙ t.alone in
-      rw (is, last) (sym (fine (t.run ∷ t.later) m t.runs ∙ pick_true _ _ (eq-eqb t.run.address address (sym t.address ∙ k)))))
+    pub is_there :
+        First text d r e → (r.bytes ≡ 0 → ⊥) → r.address ≡ address →
+        (a : Compared) → a ≡ agreement means (run_of (take r.bytes e) (origin address page)) → (last : Bool) → last ≡ none_left (asked_of text r.next) →
+        Is (Ok (answer (a.equal && last) a.place))
+    is_there (empty size z q k) n m a f last g = absurd (n (ap (λ (x : Run). x.bytes) k))
+    is_there (there size z t) n m a f last g =
+        let is : a ≡ agreement means (run_of t.run.bytes (origin address page)) = f ∙ ap (λ (l : List ℕ). agreement means (run_of l (origin address page))) (front_holds text d r e t) in
+        let alone : last ≡ none t.later = g ∙ t.alone in
+        rw (is, alone) (sym (fine (t.run ∷ t.later) size z t.runs ∙ ap Ok (pick_true _ _ (eq-eqb t.run.address address (sym t.address ∙ m)))))
 
 -- ---- the list's own refusal comes before
 module _ (list : List ℕ) (address : ℕ) (page : Page) (text : List ℕ) where
-  abbrev compared_by : Outcome → Compared
+  abbrev compared_by : Result (List ℕ) Refusal → Result Compared Refusal
   compared_by o = compared_as o (meanings_from (entries_of list) address) address page text
 
-  pub list_refused : (r : Laid) → r ≡ answer_of (lay_of list address all_room) → (r.refusal ≡ 0 → ⊥) → refused r.refusal ≡ compare_of list address page text
+  pub list_refused : (x : Refusal) → answer_of (lay_of list address all_room) ≡ Err x → Err x ≡ compare_of list address page text
   unfolding compare_of
-  list_refused r = go (lay_of list address all_room)
-    where
-      go : (o : Outcome) → r ≡ answer_of o → (r.refusal ≡ 0 → ⊥) → refused r.refusal ≡ compared_by o
-      go (Refused n) a z = ap (λ (x : Laid). refused x.refusal) a
-      go (Bytes bytes) a z = absurd (z (ap (λ (x : Laid). x.refusal) a))
+  list_refused x e = rw (refused_of (lay_of list address all_room) x e)
 
   pub list_laid :
-      (r : Laid) → address ≤ 65536 → r ≡ answer_of (lay_of list address all_room) → r.refusal ≡ 0 →
+      (n : ℕ) → answer_of (lay_of list address all_room) ≡ Ok n →
       text_against (meanings_from (entries_of list) address) address page text ≡ compare_of list address page text
   unfolding compare_of
-  list_laid r h a z = sym (ap compared_by (zero_exactly list address all_room h (sym (ap (λ (x : Laid). x.refusal) a) ∙ z)))
+  list_laid n e = rw (answered_of (lay_of list address all_room) n e).outcome

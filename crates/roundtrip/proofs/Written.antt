@@ -7,30 +7,30 @@ use mathlib.Core.Bool.{Bool, true, false}
 use mathlib.Core.List.{List, [], ◌∷◌, ◌++◌, append-nil}
 use Prim.Native.Nat.{ℕ, ◌+◌, ◌*◌, ◌/◌, ◌≤◌}
 use native.Mathlib.Omega.{arith}
-use lib.Dec.{eqb, ltb}
+use lib.Dec.{ltb}
 use lib.ListN.{length, take, drop}
 use lib.Seq.{take_all}
 use Rattle.ground.specs.Choice.{pick}
-use Rattle.ground.specs.Refusals.{no_room}
+use Rattle.ground.specs.declared.refusals.Refusal.{Refusal}
+use Rattle.ground.specs.declared.refusals.Refusal.TheVariants.{NoRoom}
 use Rattle.ground.proofs.Choices.{pick_false}
 use Rattle.records.specs.Objects.{With, count_of, object_of, objects_of, faulty, too_far, byte_rows}
 use Rattle.records.specs.Text.{close, recs, text, text_of}
 use Rattle.records.specs.Runs.{runs_of, pieces}
 use Rattle.records.specs.Fine.{Bytes}
 use Rattle.records.proofs.ByteRows.{byte_rows_length, byte_data, bytes_good}
-use Rattle.records.specs.Written.{refused, written_of, buffer_of}
-use Rattle.records.specs.declared.Written.{Written}
+use Rattle.records.specs.Written.{written_of, buffer_as, buffer_of}
+use Rattle.std.specs.Prelude.{Result, Ok, Err}
 use Rattle.reader.specs.Answers.{bytes_of as bytes_in, read_of, runs_in}
 use Rattle.reader.proofs.Round.{written_reads, written_answers}
 use Rattle.roundtrip.specs.Demand.{object_for, text_for}
 
 -- a buffer is changed where the answer is no refusal
 stored_by :
-    (short : Bool) (n : ℕ) (stored d : List ℕ) →
-    pick (eqb (pick short (refused no_room) (record { refusal = 0; length = n })).refusal 0) stored d ≡ pick short d stored
+    (short : Bool) (n : ℕ) (text d : List ℕ) → buffer_as (pick short (Err NoRoom) (Ok n)) text d ≡ pick short d (text ++ drop (length text) d)
 unfolding pick
-stored_by true n stored d = refl
-stored_by false n stored d = refl
+stored_by true n text d = refl
+stored_by false n text d = refl
 
 module _ (address : ℕ) (bytes : List ℕ) (w : Bytes bytes) where
   all_taken : take (2 * length bytes) (byte_rows bytes) ≡ byte_rows bytes
@@ -59,13 +59,13 @@ module _ (address : ℕ) (bytes : List ℕ) (w : Bytes bytes) where
     pub object_answers :
         (room : ℕ) →
         written_of (object_for address bytes) (byte_rows bytes) room
-        ≡ pick (ltb room (length (text_for address bytes))) (refused no_room) (record { refusal = 0; length = length (text_for address bytes) })
+        ≡ pick (ltb room (length (text_for address bytes))) (Err NoRoom) (Ok (length (text_for address bytes)))
     unfolding written_of text_for
     object_answers room = pick_false _ _ not_faulty ∙ pick_false _ _ (ap too_far one_object ∙ not_far)
 
     pub object_written :
         (room : ℕ) → length (text_for address bytes) ≤ room →
-        written_of (object_for address bytes) (byte_rows bytes) room ≡ record { refusal = 0; length = length (text_for address bytes) }
+        written_of (object_for address bytes) (byte_rows bytes) room ≡ Ok (length (text_for address bytes))
     object_written room h = object_answers room ∙ pick_false _ _ (le-ltb room (length (text_for address bytes)) h)
 
     pub object_buffer :
@@ -75,9 +75,8 @@ module _ (address : ℕ) (bytes : List ℕ) (w : Bytes bytes) where
     unfolding buffer_of text_for
     object_buffer d =
         let text = text_for address bytes in
-        let stored = text ++ drop (length text) d in
-        ap (λ (w : Written). pick (eqb w.refusal 0) stored d) (object_answers (length d))
-        ∙ stored_by (ltb (length d) (length text)) (length text) stored d
+        ap (λ (w : Result ℕ Refusal). buffer_as w text d) (object_answers (length d))
+        ∙ stored_by (ltb (length d) (length text)) (length text) text d
 
     -- the run of one object
     one_run : runs_of (pieces (With address bytes ∷ [])) ≡ close address bytes []
@@ -92,7 +91,7 @@ module _ (address : ℕ) (bytes : List ℕ) (w : Bytes bytes) where
 
     pub object_read :
         (room cells : ℕ) → length bytes ≤ room → 2 ≤ cells →
-        read_of (text_for address bytes) room cells ≡ record { refusal = 0; bytes = length bytes; runs = length (close address bytes []) }
+        read_of (text_for address bytes) room cells ≡ Ok (record { bytes = length bytes; runs = length (close address bytes []) })
     object_read room cells h k =
         let s : length (bytes_in (runs_of (pieces (With address bytes ∷ [])))) ≡ length bytes = ap (λ rs. length (bytes_in rs)) one_run ∙ size bytes in
         let c : length (runs_of (pieces (With address bytes ∷ []))) ≡ length (close address bytes []) = ap length one_run in

@@ -8,35 +8,34 @@ use Prim.Native.Nat.{ℕ, zero, suc, ◌+◌, ◌<◌, ◌≤◌}
 use native.Mathlib.Omega.{arith}
 use lib.Dec.{eqb, ltb}
 use borrow.Author.Tests.{eqb-true, eqb-false, ltb-true, ltb-false, lt-ltb}
+use Rattle.std.specs.Prelude.{Option, Some, None, Result, Err, is_ok}
 use Rattle.ground.specs.Choice.{pick}
-use Rattle.ground.specs.Refusals.{unknown, no_such_mode}
-use Rattle.rows.specs.declared.Found.{Found}
-use Rattle.rows.specs.declared.Found.TheVariants.{Row, Nothing}
-use Rattle.rows.specs.declared.Coded.{Coded}
-use Rattle.rows.specs.declared.Coded.TheVariants.{Code, Unknown, Missing}
+use Rattle.ground.specs.declared.refusals.Refusal.{Refusal}
+use Rattle.ground.specs.declared.refusals.Refusal.TheVariants.{Unknown, NoSuchMode}
+use Rattle.rows.specs.declared.Code.{Code}
 use Rattle.rows.specs.Sheet.{count, table_of}
-use Rattle.rows.specs.Lookup.{find, merged_of, on_page, placed, is_code, has_form_of, has_some, forms, known_of, code_of, refusal_of}
+use Rattle.rows.specs.Lookup.{find, merged_of, coded, on_page, placed, has_form_of, has_some, forms, known_of, code_of}
 use Rattle.rows.proofs.Pages.{no_form}
 
-pub placed_none : (o form : ℕ) → 7 ≤ form → placed o form ≡ Missing
+pub placed_none : (o form : ℕ) → 7 ≤ form → placed o form ≡ Err NoSuchMode
 unfolding placed
 placed_none o form h = rw (no_form 0x00 form h, no_form 0x10 form h, no_form 0x11 form h)
 
 -- the rows give a code, or nothing
-placed_or : (o form : ℕ) → (placed o form ≡ Missing) ⊎ ((p : ℕ) × ((c : ℕ) × (placed o form ≡ Code p c)))
+pub placed_or : (o form : ℕ) → (placed o form ≡ Err NoSuchMode) ⊎ ((p : ℕ) × ((c : ℕ) × (placed o form ≡ coded p c)))
 unfolding placed
 placed_or o form =
     from (find false (merged_of o) (table_of 0x00 form)) (find false (merged_of o) (table_of 0x10 form))
     (find false (merged_of o) (table_of 0x11 form))
   where
     from :
-        (a b d : Found) →
-        (on_page 0x00 a (on_page 0x10 b (on_page 0x11 d Missing)) ≡ Missing)
-        ⊎ ((p : ℕ) × ((c : ℕ) × (on_page 0x00 a (on_page 0x10 b (on_page 0x11 d Missing)) ≡ Code p c)))
-    from (Row r) b d = inr (_, (_, refl))
-    from Nothing (Row r) d = inr (_, (_, refl))
-    from Nothing Nothing (Row r) = inr (_, (_, refl))
-    from Nothing Nothing Nothing = inl refl
+        (a b d : Option ℕ) →
+        (on_page 0x00 a (on_page 0x10 b (on_page 0x11 d (Err NoSuchMode))) ≡ Err NoSuchMode)
+        ⊎ ((p : ℕ) × ((c : ℕ) × (on_page 0x00 a (on_page 0x10 b (on_page 0x11 d (Err NoSuchMode))) ≡ coded p c)))
+    from (Some r) b d = inr (_, (_, refl))
+    from None (Some r) d = inr (_, (_, refl))
+    from None None (Some r) = inr (_, (_, refl))
+    from None None None = inl refl
 
 some_form : (o form a n : ℕ) → has_form_of o form ≡ true → a ≤ form → form < a + n → has_some o (count a n) ≡ true
 some_form o form a zero e h k = absurd (omega arith)
@@ -77,8 +76,8 @@ form_small o form e = small (ltb form 7) refl
     small : (t : Bool) → ltb form 7 ≡ t → form < 7
     small true q = ltb-true form 7 q
     small false q =
-        let p : placed o form ≡ Missing = placed_none o form (ltb-false form 7 q) in
-        let d : false ≡ true = ap is_code (sym p) ∙ e in
+        let p : placed o form ≡ Err NoSuchMode = placed_none o form (ltb-false form 7 q) in
+        let d : false ≡ true = ap is_ok (sym p) ∙ e in
         let z : ◌≡◌ {A = ℕ} 0 1 = cc in
         absurd (omega arith)
 
@@ -91,56 +90,55 @@ pub known_has_form : (o : ℕ) → known_of o ≡ true → (form : ℕ) × (has_
 unfolding known_of
 known_has_form o e = among o forms e
 
-has_code : (o form p c : ℕ) → placed o form ≡ Code p c → has_form_of o form ≡ true
+has_code : (o form p c : ℕ) → placed o form ≡ coded p c → has_form_of o form ≡ true
 unfolding has_form_of
-has_code o form p c e = ap is_code e
+has_code o form p c e = ap is_ok e
 
-pub code_placed : (o form p c : ℕ) → placed o form ≡ Code p c → code_of o form ≡ Code p c
+pub code_placed : (o form p c : ℕ) → placed o form ≡ coded p c → code_of o form ≡ coded p c
 unfolding code_of pick
 code_placed o form p c e =
     let h = has_code o form p c e in
     rw (has_form_known o form h, lt-ltb form 7 (form_small o form h)) e
 
-pub absent_placed : (o form : ℕ) → placed o form ≡ Missing → pick (known_of o && ltb form 7) Missing Unknown ≡ code_of o form
+pub absent_placed : (o form : ℕ) → placed o form ≡ Err NoSuchMode → pick (known_of o && ltb form 7) (Err NoSuchMode) (Err Unknown) ≡ code_of o form
 unfolding code_of
 absent_placed o form e = rw e
 
-pub code_is_placed : (o form p c : ℕ) → code_of o form ≡ Code p c → placed o form ≡ Code p c
+pub code_is_placed : (o form p c : ℕ) → code_of o form ≡ coded p c → placed o form ≡ coded p c
 unfolding code_of pick
 code_is_placed o form p c e = from (known_of o && ltb form 7) e
   where
-    from : (t : Bool) → pick t (placed o form) Unknown ≡ Code p c → placed o form ≡ Code p c
+    from : (t : Bool) → pick t (placed o form) (Err Unknown) ≡ coded p c → placed o form ≡ coded p c
     from true d = d
     from false d = absurd (let z : ◌≡◌ {A = ℕ} 0 1 = cc in omega arith)
 
-either_way : {A : Type 0} (g : Coded → A) (t : Bool) (a : Coded) → g a ≡ g Unknown → g (pick t a Unknown) ≡ g a
+either_way : {A : Type 0} (g : Result Code Refusal → A) (t : Bool) (a : Result Code Refusal) → g a ≡ g (Err Unknown) → g (pick t a (Err Unknown)) ≡ g a
 unfolding pick
 either_way g true a e = refl
 either_way g false a e = sym e
 
 -- what makes no difference between the two refusals can be asked of the rows alone
-pub alike : {A : Type 0} (g : Coded → A) → g Missing ≡ g Unknown → (o form : ℕ) → g (code_of o form) ≡ g (placed o form)
+pub alike : {A : Type 0} (g : Result Code Refusal → A) → g (Err NoSuchMode) ≡ g (Err Unknown) → (o form : ℕ) → g (code_of o form) ≡ g (placed o form)
 unfolding code_of
-alike g d o form = from (placed o form) refl
+alike g d o form = from (placed_or o form)
   where
-    from : (a : Coded) → placed o form ≡ a → g (code_of o form) ≡ g (placed o form)
-    from (Code p c) e = ap g (code_placed o form p c e ∙ sym e)
-    from Missing e = rw e (either_way g (known_of o && ltb form 7) Missing d)
-    from Unknown e = rw e (either_way g (known_of o && ltb form 7) Unknown refl)
+    from : (placed o form ≡ Err NoSuchMode) ⊎ ((p : ℕ) × ((c : ℕ) × (placed o form ≡ coded p c))) → g (code_of o form) ≡ g (placed o form)
+    from (inl e) = rw e (either_way g (known_of o && ltb form 7) (Err NoSuchMode) d)
+    from (inr x) = ap g (code_placed o form x.0 x.1.0 x.1.1 ∙ sym x.1.1)
 
-pub has_form_code : (o form : ℕ) → has_form_of o form ≡ is_code (code_of o form)
+pub has_form_code : (o form : ℕ) → has_form_of o form ≡ is_ok (code_of o form)
 unfolding has_form_of
-has_form_code o form = sym (alike is_code refl o form)
+has_form_code o form = sym (alike is_ok refl o form)
 
--- 01's numbers, each exactly where it belongs: 1 where the operation or the form is unknown, 2 where a known operation lacks the form, else 0
-pub code_refused : (o form : ℕ) → refusal_of (code_of o form) ≡ pick (known_of o && ltb form 7) (pick (has_form_of o form) 0 no_such_mode) unknown
+-- 01's refusals, each exactly where it belongs: 1 where the operation or the form is unknown, 2 where a known operation lacks the form, else a code
+pub code_refused : (o form : ℕ) → code_of o form ≡ pick (known_of o && ltb form 7) (pick (has_form_of o form) (placed o form) (Err NoSuchMode)) (Err Unknown)
 unfolding has_form_of code_of pick
 code_refused o form = from (known_of o && ltb form 7) (placed o form) (placed_or o form)
   where
     from :
-        (t : Bool) (a : Coded) →
-        (a ≡ Missing) ⊎ ((p : ℕ) × ((c : ℕ) × (a ≡ Code p c))) →
-        refusal_of (pick t a Unknown) ≡ pick t (pick (is_code a) 0 no_such_mode) unknown
+        (t : Bool) (a : Result Code Refusal) →
+        (a ≡ Err NoSuchMode) ⊎ ((p : ℕ) × ((c : ℕ) × (a ≡ coded p c))) →
+        pick t a (Err Unknown) ≡ pick t (pick (is_ok a) a (Err NoSuchMode)) (Err Unknown)
     from true a (inl m) = rw m
     from true a (inr x) = rw x.1.1
     from false a d = refl

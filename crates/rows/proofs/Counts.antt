@@ -7,7 +7,7 @@ use lib.Dec.{eqb}
 use Rattle.ground.specs.Choice.{pick}
 use Rattle.ground.specs.Refusals.{undefined}
 use Rattle.rows.specs.Sheet.{table_of, page0, page10, page11}
-use Rattle.rows.specs.Lookup.{merged_of, placed, has_form_of, row_of, refusal_of_named}
+use Rattle.rows.specs.Lookup.{merged_of, placed, has_form_of, row_of, refusal_of}
 
 -- the sum of a function over the numbers below n
 abbrev total : (ℕ → ℕ) → ℕ → ℕ
@@ -19,7 +19,7 @@ abbrev refused_with : ℕ → ℕ
 refused_with n = total (λ (c : ℕ). on_page 0x00 c + on_page 0x10 c + on_page 0x11 c) 256
   where
     on_page : ℕ → ℕ → ℕ
-    on_page page c = pick (eqb (refusal_of_named (row_of page c)) n) 1 0
+    on_page page c = pick (eqb (refusal_of (row_of page c)) n) 1 0
 
 pub codes_counted : (refused_with 0 ≡ 268) × (refused_with undefined ≡ 500)
 unfolding row_of table_of page0 page10 page11 pick
@@ -31,10 +31,10 @@ names_counted = refl
 
 -- "A second prefix is undefined", and a prefix is no code of page 0
 pub prefixes_undefined :
-    (refusal_of_named (row_of 0x00 0x10) ≡ undefined)
-    × ((refusal_of_named (row_of 0x00 0x11) ≡ undefined)
-    × ((refusal_of_named (row_of 0x10 0x10) ≡ undefined)
-    × ((refusal_of_named (row_of 0x10 0x11) ≡ undefined)
-    × ((refusal_of_named (row_of 0x11 0x10) ≡ undefined) × (refusal_of_named (row_of 0x11 0x11) ≡ undefined)))))
+    (refusal_of (row_of 0x00 0x10) ≡ undefined)
+    × ((refusal_of (row_of 0x00 0x11) ≡ undefined)
+    × ((refusal_of (row_of 0x10 0x10) ≡ undefined)
+    × ((refusal_of (row_of 0x10 0x11) ≡ undefined)
+    × ((refusal_of (row_of 0x11 0x10) ≡ undefined) × (refusal_of (row_of 0x11 0x11) ≡ undefined)))))
 unfolding row_of table_of page0 page10 page11 pick
 prefixes_undefined = (refl, (refl, (refl, (refl, (refl, refl)))))

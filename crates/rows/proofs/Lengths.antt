@@ -6,12 +6,13 @@ use Prim.Native.Nat.{ℕ, ◌<◌, ◌≤◌}
 use native.Mathlib.Omega.{arith}
 use lib.Dec.{T, eqb, ltb, ltb→lt, eqb→eq}
 use borrow.Author.Tests.{eq-eqb, ne_eqb}
+use Rattle.std.specs.Prelude.{Result, Ok, Err, is_ok}
 use Rattle.ground.specs.Choice.{pick}
 use Rattle.ground.proofs.Choices.{pick_true, pick_false, by_pick}
 use Rattle.ground.proofs.Ranges.{upto, below, both_left, both_right}
-use Rattle.rows.specs.declared.Coded.{Coded}
-use Rattle.rows.specs.declared.Coded.TheVariants.{Code, Unknown, Missing}
-use Rattle.rows.specs.Lookup.{merged_of, is_code, has_form_of, known_of, code_of}
+use Rattle.ground.specs.declared.refusals.Refusal.{Refusal}
+use Rattle.rows.specs.declared.Code.{Code}
+use Rattle.rows.specs.Lookup.{merged_of, has_form_of, known_of, code_of}
 use Rattle.rows.specs.Sizes.{number_at, of_code, number_size_of, smallest_size_of, long_from, long_of}
 use Rattle.rows.specs.Quick.{digit_of, number_line, number_digit, number_bytes, page_of, row_bytes}
 use Rattle.rows.proofs.Codes.{has_form_code}
@@ -21,24 +22,23 @@ use Rattle.rows.proofs.Bytes.{number_quick, size_quick, operand_small}
 pub size_known : (o : ℕ) → o < 256 → known_of o ≡ true → (1 ≤ smallest_size_of o) × (smallest_size_of o ≤ 4)
 unfolding row_bytes
 size_known o h k =
-    let e : row_bytes (merged_of o) ≡ smallest_size_of o = sym (pick_true _ _ k) ∙ size_quick o h in
+    let e : row_bytes (merged_of o) ≡ smallest_size_of o = sym (size_quick o h ∙ pick_true _ _ k) in
     let s = operand_small (merged_of o) in
     let p : (1 ≤ pick (eqb (page_of (merged_of o)) 0x00) 1 2) × (pick (eqb (page_of (merged_of o)) 0x00) 1 2 ≤ 2) =
     by_pick (λ (n : ℕ). (1 ≤ n) × (n ≤ 2)) (eqb (page_of (merged_of o)) 0x00) (omega arith, omega arith) (omega arith, omega arith) in
     (omega (arith, p.0, e), omega (arith, p.1, e))
 
 pub size_unknown : (o : ℕ) → o < 256 → known_of o ≡ false → smallest_size_of o ≡ 0
-size_unknown o h k = sym (size_quick o h) ∙ pick_false _ _ k
+size_unknown o h k = size_quick o h ∙ pick_false _ _ k
 
 -- where a number follows, there is a row
 pub number_has_form : (o form : ℕ) → 0 < number_size_of o form → has_form_of o form ≡ true
 unfolding number_size_of
 number_has_form o form h = has_form_code o form ∙ from (code_of o form) h
   where
-    from : (a : Coded) → 0 < of_code (number_at form) a → is_code a ≡ true
-    from (Code p c) k = refl
-    from Unknown k = absurd (omega arith)
-    from Missing k = absurd (omega arith)
+    from : (a : Result Code Refusal) → 0 < of_code (number_at form) a → is_ok a ≡ true
+    from (Ok c) k = refl
+    from (Err r) k = absurd (omega arith)
 
 -- the branch's bytes as the code has them
 abbrev distance : ℕ → ℕ

@@ -1,6 +1,5 @@
-pub mod Rest
-pub mod Lines
 pub mod At
+pub mod Lines
 pub mod Pages
 pub mod Codes
 pub mod Tests

@@ -1,6 +1,5 @@
--- The sixteens of codes, and the digits of their lines: what bounds them.
+-- What bounds the digits of the lines of codes, and the places from which a sixteen stands.
 -- Assumes nothing.
-use mathlib.Core.Path.{◌≡◌}
 use mathlib.Core.Bool.{Bool}
 use Prim.Native.Nat.{ℕ, ◌/◌, ◌<◌}
 use native.Mathlib.Omega.{arith}
@@ -8,11 +7,6 @@ use lib.Dec.{T, ltb, ltb→lt}
 use lib.ListN.{get_or}
 use Rattle.ground.proofs.Ranges.{upto, below}
 use Rattle.rows.specs.Quick.{digit_of, firsts}
-use Rattle.rows.proofs.Rest.{NoneBelow, none_below}
-
--- a code that is in none of the first fifteen sixteens is in the last
-pub last_sixteen : (code : ℕ) → code < 256 → NoneBelow (code / 16) 15 → code / 16 ≡ 15
-last_sixteen code h t = omega (arith, none_below (code / 16) 15 t)
 
 pub digit_small : (line case : ℕ) → digit_of line case < 16
 unfolding digit_of

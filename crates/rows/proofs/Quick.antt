@@ -1,21 +1,18 @@
 -- The quick ways come to the plain ones: tests over all codes of the three pages, and over all operations in all forms, which antt computes.
 -- Assumes nothing.
-use mathlib.Core.Path.{◌≡◌, ◌∙◌, refl, sym}
+use mathlib.Core.Path.{◌≡◌, refl, sym}
 use mathlib.Core.Bool.{Bool, true, false, ◌&&◌, ◌||◌, not}
 use mathlib.Core.List.{List, [], ◌∷◌}
 use Prim.Native.Nat.{ℕ, ◌%◌, ◌<◌}
 use lib.Dec.{T, eqb, ltb}
 use borrow.Author.Tests.{ltb-true, ltb-false}
+use Rattle.std.specs.Prelude.{Option, Some, None, Err, slice_get}
 use Rattle.ground.specs.Choice.{pick}
 use Rattle.ground.proofs.Ranges.{upto, below, both_left, both_right}
-use Rattle.rows.specs.declared.Found.{Found}
-use Rattle.rows.specs.declared.Found.TheVariants.{Row, Nothing}
-use Rattle.rows.specs.declared.Coded.TheVariants.{Unknown, Missing}
-use Rattle.rows.specs.declared.Named.TheVariants.{Undefined}
+use Rattle.ground.specs.declared.refusals.Refusal.TheVariants.{Unknown, NoSuchMode, Undefined}
 use Rattle.rows.specs.Sheet.{table_of, page0, page10, page11}
 use Rattle.rows.specs.Lookup.{merged_of, on_page, placed, has_form_of, forms, known_of, code_of, in_form, row_among, row_of}
-use Rattle.rows.specs.Quick.{row_at, of_operation, digit_of, form_of, place_on_page0, place_of_code, sixteen_line, regular_code, other_line, place_of_operation, page_of, quick_row, quick_on}
-use Rattle.rows.proofs.At.{nothing_at}
+use Rattle.rows.specs.Quick.{of_operation, digit_of, form_of, place_on_page0, place_of_code, sixteen_line, regular_code, other_line, place_of_operation, page_of, quick_row, quick_on}
 use Rattle.rows.proofs.Codes.{placed_none, code_placed, absent_placed}
 use Rattle.rows.proofs.Pages.{no_form, by_page}
 use Rattle.rows.proofs.Tests.{same_coded, same_named, same_coded_lem, same_named_lem}
@@ -24,14 +21,14 @@ row_agrees : ℕ → ℕ → Bool
 row_agrees page code = same_named (quick_row page code) (row_of page code)
 
 rows_agree : T (upto (row_agrees 0x00) 256 && (upto (row_agrees 0x10) 256 && upto (row_agrees 0x11) 256))
-unfolding row_agrees quick_row row_of row_at digit_of form_of place_of_code place_on_page0 table_of page0 page10 page11 pick
+unfolding row_agrees quick_row row_of digit_of form_of place_of_code place_on_page0 table_of page0 page10 page11 pick
 rows_agree = tt
 
 code_agrees : ℕ → ℕ → Bool
 code_agrees o form = same_coded (quick_on (merged_of o) form) (placed o form)
 
 codes_agree : T (upto (λ (o : ℕ). upto (code_agrees o) 7) 256)
-unfolding code_agrees quick_on placed merged_of row_at digit_of page_of sixteen_line regular_code other_line place_of_operation place_on_page0 table_of page0 page10 page11 pick
+unfolding code_agrees quick_on placed merged_of digit_of page_of sixteen_line regular_code other_line place_of_operation place_on_page0 table_of page0 page10 page11 pick
 codes_agree = tt
 
 -- the numbers that are no operation stand where the sheet leaves a code of 00 to 0F undefined, and JMP is neither on A nor on B
@@ -60,7 +57,7 @@ unfolding known_agrees
 known_quick o h = same_bool (known_of o) (quick_known o) (below known_agrees 256 known_agrees_lem o h)
 
 -- where there is no table, every code is undefined
-none_undefined : (p code : ℕ) → ((form : ℕ) → table_of p form ≡ []) → (fs : List ℕ) → row_among p code fs ≡ Undefined
+none_undefined : (p code : ℕ) → ((form : ℕ) → table_of p form ≡ []) → (fs : List ℕ) → row_among p code fs ≡ Err Undefined
 none_undefined p code none [] = refl
 none_undefined p code none (f ∷ fs) = rw (none f) (none_undefined p code none fs)
 
@@ -75,19 +72,13 @@ row_agrees_lem page code h =
     (below (row_agrees 0x10) 256 (both_left (upto (row_agrees 0x10) 256) (upto (row_agrees 0x11) 256) rs) code h))
     (same_named_lem (quick_row 0x11 code) (row_of 0x11 code)
     (below (row_agrees 0x11) 256 (both_right (upto (row_agrees 0x10) 256) (upto (row_agrees 0x11) 256) rs) code h))
-    (λ p none. rw (none (form_of code), nothing_at) (sym (none_undefined p code none forms)))
+    (λ p none. rw (none (form_of code)) (sym (none_undefined p code none forms)))
     page
 
--- what the code finds in the one table of a form is the row of a code
-pub row_found :
-    (page code form at : ℕ) (found : Found) →
-    code < 256 →
-    form ≡ form_of code →
-    at ≡ place_of_code page code →
-    found ≡ row_at at (table_of page form) →
-    in_form form found Undefined ≡ row_of page code
+-- what stands in the one table of a form is the row of a code
+pub row_found : (page code : ℕ) → code < 256 → row_of page code ≡ in_form (form_of code) (slice_get (table_of page (form_of code)) (place_of_code page code)) (Err Undefined)
 unfolding quick_row
-row_found page code form at found h e d f = (cc) ∙ row_agrees_lem page code h
+row_found page code h = sym (row_agrees_lem page code h)
 
 pub code_agrees_lem : (o form : ℕ) → o < 256 → quick_on (merged_of o) form ≡ placed o form
 unfolding code_agrees quick_on
@@ -98,24 +89,18 @@ code_agrees_lem o form h = known (ltb form 7) refl
         same_coded_lem (quick_on (merged_of o) form) (placed o form)
         (below (code_agrees o) 7 (below (λ (n : ℕ). upto (code_agrees n) 7) 256 codes_agree o h) form (ltb-true form 7 e))
     known false e =
-        rw (no_form (page_of (merged_of o)) form (ltb-false form 7 e), nothing_at) (sym (placed_none o form (ltb-false form 7 e)))
+        rw (no_form (page_of (merged_of o)) form (ltb-false form 7 e)) (sym (placed_none o form (ltb-false form 7 e)))
 
--- what the code finds in the one table of a page is the code of an operation in a form
+-- the row in the one table of a page, if it is one of that operation
+abbrev pub row_on_page : ℕ → ℕ → Option ℕ
+row_on_page o form = of_operation o (slice_get (table_of (page_of o) form) (place_of_operation o form))
+
+-- what stands there is the code of an operation in a form
 pub code_found :
-    (o form name page at : ℕ) (row found : Found) →
-    o < 256 →
-    name ≡ merged_of o →
-    page ≡ page_of name →
-    at ≡ place_of_operation name form →
-    row ≡ row_at at (table_of page form) →
-    found ≡ of_operation name row →
-    on_page page found (pick (known_of o && ltb form 7) Missing Unknown) ≡ code_of o form
+    (o form : ℕ) → o < 256 → code_of o form ≡ on_page (page_of (merged_of o)) (row_on_page (merged_of o) form) (pick (known_of o && ltb form 7) (Err NoSuchMode) (Err Unknown))
 unfolding quick_on
-code_found o form name page at row found h e d g f i = from found e₁
+code_found o form h = from (row_on_page (merged_of o) form) (code_agrees_lem o form h)
   where
-    e₁ : on_page page found Missing ≡ placed o form
-    e₁ = (cc) ∙ code_agrees_lem o form h
-
-    from : (a : Found) → on_page page a Missing ≡ placed o form → on_page page a (pick (known_of o && ltb form 7) Missing Unknown) ≡ code_of o form
-    from (Row row) p = sym (code_placed o form page _ (sym p))
-    from Nothing p = absent_placed o form (sym p)
+    from : (a : Option ℕ) → on_page (page_of (merged_of o)) a (Err NoSuchMode) ≡ placed o form → code_of o form ≡ on_page (page_of (merged_of o)) a (pick (known_of o && ltb form 7) (Err NoSuchMode) (Err Unknown))
+    from (Some row) p = code_placed o form (page_of (merged_of o)) _ (sym p)
+    from None p = sym (absent_placed o form (sym p))

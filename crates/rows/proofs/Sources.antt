@@ -13,7 +13,7 @@ use Rattle.rows.specs.Sheet.{table_of, page0, page10, page11}
 use Rattle.rows.specs.Lookup.{merged_of, code_of}
 use Rattle.rows.specs.Sizes.{is_wide, is_long, number_at, of_code, number_size_of}
 use Rattle.rows.specs.Registers.{reaches_memory, is_short_branch, is_long_branch, number_for}
-use Rattle.rows.specs.Quick.{row_at, digit_of, place_on_page0, sixteen_line, regular_code, other_line, place_of_operation, page_of, quick_on}
+use Rattle.rows.specs.Quick.{digit_of, place_on_page0, sixteen_line, regular_code, other_line, place_of_operation, page_of, quick_on}
 use Rattle.rows.proofs.Codes.{placed_none, alike}
 use Rattle.rows.proofs.Quick.{code_agrees_lem}
 
@@ -21,7 +21,7 @@ sources_agree : ℕ → ℕ → Bool
 sources_agree o form = eqb (of_code (number_at form) (quick_on (merged_of o) form)) (number_for (merged_of o) form)
 
 sources_agree_lem : T (upto (λ (o : ℕ). upto (sources_agree o) 7) 256)
-unfolding sources_agree number_for reaches_memory is_short_branch is_long_branch number_at is_wide is_long quick_on merged_of row_at digit_of page_of sixteen_line regular_code other_line place_of_operation place_on_page0 table_of page0 page10 page11 pick
+unfolding sources_agree number_for reaches_memory is_short_branch is_long_branch number_at is_wide is_long quick_on merged_of digit_of page_of sixteen_line regular_code other_line place_of_operation place_on_page0 table_of page0 page10 page11 pick
 sources_agree_lem = tt
 
 -- a function of page and code, asked where the code looks, and by definition

@@ -1,32 +1,56 @@
--- An answer loses nothing in 01's number for it and its values.
+-- An answer loses nothing in 01's number for it and what it answers: no two refusals have one number, and none has 0.
 -- Assumes nothing.
-use mathlib.Core.Path.{◌≡◌, refl}
-use mathlib.Core.List.{List}
-use Prim.Native.Nat.{ℕ}
+use mathlib.Core.Path.{◌≡◌, ◌∙◌, refl, sym, ap}
+use mathlib.Core.List.{List, [], ◌∷◌}
+use Prim.Native.Nat.{ℕ, ◌-◌}
+use native.Mathlib.Omega.{arith}
 use lib.Dec.{eqb}
 use lib.ListN.{get_or}
+use Rattle.std.specs.Prelude.{Result, Ok, Err}
+use Rattle.std.specs.Result.{result_unwrap_or}
 use Rattle.ground.specs.Choice.{pick}
-use Rattle.ground.specs.Refusals.{unknown}
-use Rattle.rows.specs.declared.Coded.{Coded}
-use Rattle.rows.specs.declared.Coded.TheVariants.{Code, Unknown, Missing}
-use Rattle.rows.specs.declared.Named.{Named}
-use Rattle.rows.specs.declared.Named.TheVariants.{Is, Undefined}
-use Rattle.rows.specs.Lookup.{refusal_of, values_of, refusal_of_named, values_of_named}
+use Rattle.ground.specs.Refusals.{number_of}
+use Rattle.ground.specs.declared.refusals.Refusal.{Refusal}
+use Rattle.ground.specs.declared.refusals.Refusal.TheVariants.{Unknown, NoSuchMode, ValueMissing, BadRegister, SingleStepIndirect, BadWidth, DirectNotAllowed, BranchTooFar, NoRoom, BadLabel, TooDeep, SegmentRepeated, NotSettled, Undefined, CutShort, BrokenText, OverLimit, Beyond}
+use Rattle.rows.specs.Lookup.{refusal_of}
 
-abbrev coded_from : ℕ → List ℕ → Coded
-coded_from refusal values =
-    pick (eqb refusal 0) (Code (get_or values 0 0) (get_or values 1 0)) (pick (eqb refusal unknown) Unknown Missing)
+-- in 01's order
+abbrev refusals : List Refusal
+refusals =
+    Unknown ∷ NoSuchMode ∷ ValueMissing ∷ BadRegister ∷ SingleStepIndirect ∷ BadWidth ∷ DirectNotAllowed ∷ BranchTooFar ∷ NoRoom ∷ BadLabel ∷ TooDeep
+    ∷ SegmentRepeated ∷ NotSettled ∷ Undefined ∷ CutShort ∷ BrokenText ∷ OverLimit ∷ Beyond ∷ []
 
-pub coded_told : (a : Coded) → coded_from (refusal_of a) (values_of a) ≡ a
+-- the answer with 01's number, and with what is answered where that is 0
+abbrev answer_from : {A : Type 0} → ℕ → A → Result A Refusal
+answer_from n a = pick (eqb n 0) (Ok a) (Err (get_or refusals (n - 1) Unknown))
+
+refusal_told : {A : Type 0} (a : A) (r : Refusal) → answer_from (number_of r) a ≡ Err r
 unfolding pick
-coded_told (Code page code) = refl
-coded_told Unknown = refl
-coded_told Missing = refl
+refusal_told a Unknown = refl
+refusal_told a NoSuchMode = refl
+refusal_told a ValueMissing = refl
+refusal_told a BadRegister = refl
+refusal_told a SingleStepIndirect = refl
+refusal_told a BadWidth = refl
+refusal_told a DirectNotAllowed = refl
+refusal_told a BranchTooFar = refl
+refusal_told a NoRoom = refl
+refusal_told a BadLabel = refl
+refusal_told a TooDeep = refl
+refusal_told a SegmentRepeated = refl
+refusal_told a NotSettled = refl
+refusal_told a Undefined = refl
+refusal_told a CutShort = refl
+refusal_told a BrokenText = refl
+refusal_told a OverLimit = refl
+refusal_told a Beyond = refl
 
-abbrev named_from : ℕ → List ℕ → Named
-named_from refusal values = pick (eqb refusal 0) (Is (get_or values 0 0) (get_or values 1 0)) Undefined
-
-pub named_told : (a : Named) → named_from (refusal_of_named a) (values_of_named a) ≡ a
+pub answer_told : {A : Type 0} (other : A) (a : Result A Refusal) → answer_from (refusal_of a) (result_unwrap_or a other) ≡ a
 unfolding pick
-named_told (Is operation form) = refl
-named_told Undefined = refl
+answer_told other (Ok a) = refl
+answer_told other (Err r) = refusal_told other r
+
+pub same_number : (r s : Refusal) → number_of r ≡ number_of s → r ≡ s
+same_number r s e =
+    let d : ◌≡◌ {A = Result ℕ Refusal} (Err r) (Err s) = sym (refusal_told 0 r) ∙ ap (λ (n : ℕ). answer_from n 0) e ∙ refusal_told 0 s in
+    cc

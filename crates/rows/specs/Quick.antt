@@ -1,26 +1,20 @@
 -- The quick ways that the code takes. Nothing here has to be believed: proofs/Quick.antt and proofs/Bytes.antt show that they come to what
 -- Lookup.antt and Sizes.antt define.
-use Rattle.std.specs.Prelude.{ℕ, ◌+◌, ◌-◌, ◌*◌, ◌/◌, ◌%◌, ◌^◌, Bool, ◌&&◌, ◌||◌, not, List, [], ◌∷◌, eqb, leb, ltb, length, get_or}
+use Rattle.std.specs.Prelude.{ℕ, ◌+◌, ◌-◌, ◌*◌, ◌/◌, ◌%◌, ◌^◌, Bool, ◌&&◌, ◌||◌, not, List, [], ◌∷◌, Option, Some, None, Result, Err, eqb, leb, ltb, get_or, slice_get}
 use Rattle.ground.specs.Choice.{pick}
-use Rattle.rows.specs.declared.Found.{Found}
-use Rattle.rows.specs.declared.Found.TheVariants.{Row, Nothing}
-use Rattle.rows.specs.declared.Coded.{Coded}
-use Rattle.rows.specs.declared.Coded.TheVariants.{Missing}
+use Rattle.ground.specs.declared.refusals.Refusal.{Refusal}
+use Rattle.ground.specs.declared.refusals.Refusal.TheVariants.{NoSuchMode, Undefined}
+use Rattle.rows.specs.declared.Code.{Code}
 use Rattle.rows.specs.declared.Named.{Named}
-use Rattle.rows.specs.declared.Named.TheVariants.{Undefined}
 use Rattle.rows.specs.Forms.{inherent, immediate, indexed, register}
 use Rattle.rows.specs.Sheet.{table_of}
 use Rattle.rows.specs.Lookup.{on_page, in_form}
 use Rattle.rows.specs.Sizes.{between}
 
--- the row at a place of a table
-unfoldable pub row_at : ℕ → List ℕ → Found
-row_at at rows = pick (ltb at (length rows)) (Row (get_or rows at 0)) Nothing
-
 -- what is found, if it is a row of that operation
-abbrev pub of_operation : ℕ → Found → Found
-of_operation o (Row row) = pick (eqb (row % 256) o) (Row row) Nothing
-of_operation o Nothing = Nothing
+abbrev pub of_operation : ℕ → Option ℕ → Option ℕ
+of_operation o (Some row) = pick (eqb (row % 256) o) (Some row) None
+of_operation o None = None
 
 -- a line has a hexadecimal digit for each of sixteen cases, the left digit for the first
 unfoldable pub digit_of : ℕ → ℕ → ℕ
@@ -135,12 +129,12 @@ page_of o =
     (pick (between 121 123 o) 0x11 0x00)
 
 -- a row by its code, in the one table of its form
-unfoldable pub quick_row : ℕ → ℕ → Named
-quick_row page code = in_form (form_of code) (row_at (place_of_code page code) (table_of page (form_of code))) Undefined
+unfoldable pub quick_row : ℕ → ℕ → Result Named Refusal
+quick_row page code = in_form (form_of code) (slice_get (table_of page (form_of code)) (place_of_code page code)) (Err Undefined)
 
 -- a code by its operation, in the one table of its page
-unfoldable pub quick_on : ℕ → ℕ → Coded
-quick_on o form = on_page (page_of o) (of_operation o (row_at (place_of_operation o form) (table_of (page_of o) form))) Missing
+unfoldable pub quick_on : ℕ → ℕ → Result Code Refusal
+quick_on o form = on_page (page_of o) (of_operation o (slice_get (table_of (page_of o) form) (place_of_operation o form))) (Err NoSuchMode)
 
 -- the number that stands after an operation's codes, a digit for each operation: its right two bits are the bytes of an immediate; its left two bits are 1
 -- where there is an address, 2 for a branch's distance and 3 for a long branch's

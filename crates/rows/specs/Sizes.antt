@@ -1,8 +1,8 @@
 -- How many bytes stand after a code, as the sheet says of codes, and the long branch of a short one.
-use Rattle.std.specs.Prelude.{ℕ, zero, suc, ◌+◌, ◌*◌, min, Bool, false, ◌&&◌, ◌||◌, not, List, [], ◌∷◌, eqb, leb}
+use Rattle.std.specs.Prelude.{ℕ, zero, suc, ◌+◌, ◌*◌, min, Bool, false, ◌&&◌, ◌||◌, not, Result, Ok, Err, List, [], ◌∷◌, eqb, leb}
 use Rattle.ground.specs.Choice.{pick}
-use Rattle.rows.specs.declared.Coded.{Coded}
-use Rattle.rows.specs.declared.Coded.TheVariants.{Code, Unknown, Missing}
+use Rattle.ground.specs.declared.refusals.Refusal.{Refusal}
+use Rattle.rows.specs.declared.Code.{Code}
 use Rattle.rows.specs.Forms.{immediate, direct, indexed, extended, relative, register}
 use Rattle.rows.specs.Lookup.{merged_of, code_of, forms}
 
@@ -27,10 +27,9 @@ number_at form page code =
     (pick (eqb form relative) (pick (is_long page code) 2 1) 0)))
 
 -- what a function of page and code says of a row, and 0 where there is none
-abbrev pub of_code : (ℕ → ℕ → ℕ) → Coded → ℕ
-of_code f (Code page code) = f page code
-of_code f Unknown = 0
-of_code f Missing = 0
+abbrev pub of_code : (ℕ → ℕ → ℕ) → Result Code Refusal → ℕ
+of_code f (Ok c) = f c.page c.code
+of_code f (Err refusal) = 0
 
 unfoldable pub number_size_of : ℕ → ℕ → ℕ
 number_size_of o form = of_code (number_at form) (code_of o form)

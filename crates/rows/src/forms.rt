@@ -1,4 +1,4 @@
-// The forms of opcode rows, as docs/ROWS.md numbers them.
+// The forms of opcode rows, as docs/ROWS.md numbers them. Numbers and no enum, as the operations are: a caller or a lent row may hand in any (docs/ROWS.md).
 pub const INHERENT: u8 = 0;
 
 pub const IMMEDIATE: u8 = 1;

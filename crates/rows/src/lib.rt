@@ -7,141 +7,68 @@ mod places;
 pub mod sizes;
 mod tables;
 
-ghost use Rattle.std.specs.Prelude.{◌≡◌};
+ghost use Rattle.std.specs.Prelude.{◌≡◌, slice_get};
 ghost use Rattle.rows.specs.Sheet.{page0, page10, page11, table_of};
 ghost use Rattle.rows.specs.Lookup.{merged_of, known_of, has_form_of, code_of, row_of};
-ghost use Rattle.rows.specs.Quick.{row_at, of_operation, page_of};
+ghost use Rattle.rows.specs.Quick.{of_operation, page_of};
 
 use forms::*;
+use ground::refusals::Refusal;
 use places::{form_of, place_of_code, place_of_operation};
 use sizes::is_formed;
 use tables::*;
 
-// What a table has at a place.
-#[derive(Clone, Copy)]
-enum Found {
-    Row(u16),
-    Nothing,
-}
-
-// The row at a place of the table of a page and form: the one place that says which table that is.
-fn row_on_page_0(form: u8, at: usize) -> Found
-    ensures { result ≡ row_at at (page0 form) }
+// The row at a place of the table of a page and form: the one place that says which table that is. A function for each page, since each has tables of its
+// own: a generic one would be told them all.
+#[tactic(auto, using(crate::proofs::At::item_copied), unfolding(crate::specs::Sheet::page0, ground::specs::Choice::pick))]
+fn row_on_page_0(form: u8, at: usize) -> Option<u16>
+    ensures { result ≡ slice_get (page0 form) at }
 {
     match form {
-        INHERENT => if at < 31 {
-            Found::Row(INHERENT_0[at])
-        } else {
-            Found::Nothing
-        },
-        IMMEDIATE => if at < 29 {
-            Found::Row(IMMEDIATE_0[at])
-        } else {
-            Found::Nothing
-        },
-        DIRECT => if at < 44 {
-            Found::Row(DIRECT_0[at])
-        } else {
-            Found::Nothing
-        },
-        INDEXED => if at < 48 {
-            Found::Row(INDEXED_0[at])
-        } else {
-            Found::Nothing
-        },
-        EXTENDED => if at < 44 {
-            Found::Row(EXTENDED_0[at])
-        } else {
-            Found::Nothing
-        },
-        RELATIVE => if at < 19 {
-            Found::Row(RELATIVE_0[at])
-        } else {
-            Found::Nothing
-        },
-        REGISTER => if at < 6 {
-            Found::Row(REGISTER_0[at])
-        } else {
-            Found::Nothing
-        },
-        _ => Found::Nothing,
+        INHERENT => INHERENT_0.get(at).copied(),
+        IMMEDIATE => IMMEDIATE_0.get(at).copied(),
+        DIRECT => DIRECT_0.get(at).copied(),
+        INDEXED => INDEXED_0.get(at).copied(),
+        EXTENDED => EXTENDED_0.get(at).copied(),
+        RELATIVE => RELATIVE_0.get(at).copied(),
+        REGISTER => REGISTER_0.get(at).copied(),
+        _ => None,
     }
 }
 
-fn row_on_page_10(form: u8, at: usize) -> Found
-    ensures { result ≡ row_at at (page10 form) }
+#[tactic(auto, using(crate::proofs::At::item_copied), unfolding(crate::specs::Sheet::page10, ground::specs::Choice::pick))]
+fn row_on_page_10(form: u8, at: usize) -> Option<u16>
+    ensures { result ≡ slice_get (page10 form) at }
 {
     match form {
-        INHERENT => if at < 1 {
-            Found::Row(INHERENT_10[at])
-        } else {
-            Found::Nothing
-        },
-        IMMEDIATE => if at < 4 {
-            Found::Row(IMMEDIATE_10[at])
-        } else {
-            Found::Nothing
-        },
-        DIRECT => if at < 6 {
-            Found::Row(DIRECT_10[at])
-        } else {
-            Found::Nothing
-        },
-        INDEXED => if at < 6 {
-            Found::Row(INDEXED_10[at])
-        } else {
-            Found::Nothing
-        },
-        EXTENDED => if at < 6 {
-            Found::Row(EXTENDED_10[at])
-        } else {
-            Found::Nothing
-        },
-        RELATIVE => if at < 15 {
-            Found::Row(RELATIVE_10[at])
-        } else {
-            Found::Nothing
-        },
-        _ => Found::Nothing,
+        INHERENT => INHERENT_10.get(at).copied(),
+        IMMEDIATE => IMMEDIATE_10.get(at).copied(),
+        DIRECT => DIRECT_10.get(at).copied(),
+        INDEXED => INDEXED_10.get(at).copied(),
+        EXTENDED => EXTENDED_10.get(at).copied(),
+        RELATIVE => RELATIVE_10.get(at).copied(),
+        _ => None,
     }
 }
 
-fn row_on_page_11(form: u8, at: usize) -> Found
-    ensures { result ≡ row_at at (page11 form) }
+#[tactic(auto, using(crate::proofs::At::item_copied), unfolding(crate::specs::Sheet::page11, ground::specs::Choice::pick))]
+fn row_on_page_11(form: u8, at: usize) -> Option<u16>
+    ensures { result ≡ slice_get (page11 form) at }
 {
     match form {
-        INHERENT => if at < 1 {
-            Found::Row(INHERENT_11[at])
-        } else {
-            Found::Nothing
-        },
-        IMMEDIATE => if at < 2 {
-            Found::Row(IMMEDIATE_11[at])
-        } else {
-            Found::Nothing
-        },
-        DIRECT => if at < 2 {
-            Found::Row(DIRECT_11[at])
-        } else {
-            Found::Nothing
-        },
-        INDEXED => if at < 2 {
-            Found::Row(INDEXED_11[at])
-        } else {
-            Found::Nothing
-        },
-        EXTENDED => if at < 2 {
-            Found::Row(EXTENDED_11[at])
-        } else {
-            Found::Nothing
-        },
-        _ => Found::Nothing,
+        INHERENT => INHERENT_11.get(at).copied(),
+        IMMEDIATE => IMMEDIATE_11.get(at).copied(),
+        DIRECT => DIRECT_11.get(at).copied(),
+        INDEXED => INDEXED_11.get(at).copied(),
+        EXTENDED => EXTENDED_11.get(at).copied(),
+        _ => None,
     }
 }
 
 // Page 0 is asked for first: most rows stand there.
-fn row_at(page: u8, form: u8, at: usize) -> Found
-    ensures { result ≡ row_at at (table_of page form) }
+#[tactic(auto, unfolding(crate::specs::Sheet::table_of, ground::specs::Choice::pick))]
+fn row_at(page: u8, form: u8, at: usize) -> Option<u16>
+    ensures { result ≡ slice_get (table_of page form) at }
 {
     if page == 0x00 {
         return row_on_page_0(form, at);
@@ -149,38 +76,31 @@ fn row_at(page: u8, form: u8, at: usize) -> Found
     match page {
         0x10 => row_on_page_10(form, at),
         0x11 => row_on_page_11(form, at),
-        _ => Found::Nothing,
+        _ => None,
     }
 }
 
 // What is found, if it is a row of that operation.
-fn of_operation(found: Found, operation: u8) -> Found
+#[tactic(auto, unfolding(ground::specs::Choice::pick))]
+fn of_operation(found: Option<u16>, operation: u8) -> Option<u16>
     ensures { result ≡ of_operation operation found }
 {
-    match found {
-        Found::Row(row) => if (row % 256) as u8 == operation {
-            Found::Row(row)
-        } else {
-            Found::Nothing
-        },
-        Found::Nothing => Found::Nothing,
-    }
+    found.filter(|row| (*row % 256) as u8 == operation)
 }
 
 // The operation that an alias stands for; any other number stands for itself.
+#[tactic(auto, unfolding(crate::specs::Lookup::merged_of, ground::specs::Choice::pick))]
 pub fn merged(operation: u8) -> u8
     ensures { result ≡ merged_of operation }
 {
-    if operation < 146 {
-        return operation;
+    match operation {
+        146..=152 => ALIASES[(operation - 146) as usize],
+        _ => operation,
     }
-    if 152 < operation {
-        return operation;
-    }
-    ALIASES[(operation - 146) as usize]
 }
 
 // Whether an operation has a row at all.
+#[tactic(auto, using(crate::proofs::Quick::known_quick))]
 pub fn known(operation: u8) -> bool
     ensures { result ≡ known_of operation }
 {
@@ -191,6 +111,7 @@ pub fn known(operation: u8) -> bool
 }
 
 // The page of an operation that is no alias.
+#[tactic(auto, unfolding(crate::specs::Quick::page_of, ground::specs::Choice::pick))]
 fn page_of(operation: u8) -> u8
     ensures { result ≡ page_of operation }
 {
@@ -206,18 +127,17 @@ fn page_of(operation: u8) -> u8
     0x00
 }
 
-// The code of an operation in a form. Unknown is 01's refusal 1 (the operation or the form is no number that there is), Missing its 2 (the
-// operation has no row in that form).
+// A code and the page that it stands on, 00, 10 or 11.
 #[derive(Clone, Copy)]
-pub enum Coded {
-    Code { page: u8, code: u8 },
-    Unknown,
-    Missing,
+pub struct Code {
+    pub page: u8,
+    pub code: u8,
 }
 
-// The code of an operation in a form, read in the one table of its page and form. Where that has none, the operation lacks the form, or one of the
-// two is unknown.
-pub fn code_of(operation: u8, form: u8) -> Coded
+// The code of an operation in a form (two numbers and no struct, since either may be anything: docs/ROWS.md), read in the one table of its page and
+// form. Where that has none, the operation or the form is no number that there is, or else the operation has no row in that form.
+#[tactic(auto, using(crate::proofs::Quick::code_found), unfolding(ground::specs::Choice::pick))]
+pub fn code_of(operation: u8, form: u8) -> Result<Code, Refusal>
     ensures { result ≡ code_of operation form }
 {
     let name = merged(operation);
@@ -225,44 +145,43 @@ pub fn code_of(operation: u8, form: u8) -> Coded
     let at = place_of_operation(name, form);
     let found = of_operation(row_at(page, form, at), name);
     match found {
-        Found::Row(row) => Coded::Code {
+        Some(row) => Ok(Code {
             page,
             code: (row / 256) as u8,
-        },
-        Found::Nothing => if known(operation) & (form < 7) {
-            Coded::Missing
+        }),
+        None => if known(operation) & (form < 7) {
+            Err(Refusal::NoSuchMode)
         } else {
-            Coded::Unknown
+            Err(Refusal::Unknown)
         },
     }
 }
 
 // Whether an operation has a form.
+#[tactic(auto, using(crate::proofs::Bytes::form_quick))]
 pub fn has_form(operation: u8, form: u8) -> bool
     ensures { result ≡ has_form_of operation form }
 {
     known(operation) & is_formed(merged(operation), form)
 }
 
-// The operation and the form of a code. Undefined is 01's refusal 14.
+// An operation, which is no alias, and a form that it has.
 #[derive(Clone, Copy)]
-pub enum Named {
-    Is { operation: u8, form: u8 },
-    Undefined,
+pub struct Named {
+    pub operation: u8,
+    pub form: u8,
 }
 
-// The operation and the form of a code, read in the one table of its page and form.
-pub fn row_of(page: u8, code: u8) -> Named
+// The operation and the form of a code, read in the one table of its page and form; undefined where that has no row.
+#[tactic(auto, using(crate::proofs::Quick::row_found))]
+pub fn row_of(page: u8, code: u8) -> Result<Named, Refusal>
     ensures { result ≡ row_of page code }
 {
     let form = form_of(code);
     let at = place_of_code(page, code);
-    let found = row_at(page, form, at);
-    match found {
-        Found::Row(row) => Named::Is {
-            operation: (row % 256) as u8,
-            form,
-        },
-        Found::Nothing => Named::Undefined,
-    }
+    let row = row_at(page, form, at).ok_or(Refusal::Undefined)?;
+    Ok(Named {
+        operation: (row % 256) as u8,
+        form,
+    })
 }

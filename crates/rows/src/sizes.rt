@@ -10,6 +10,7 @@ use crate::{known, merged, page_of};
 // The number that stands after an operation's codes, a digit for each operation: its right two bits are the bytes of an immediate; its left two bits
 // are 1 where there is an address, 2 for a branch's distance and 3 for a long branch's. NEG to CLR; SUBA to STX; SUBB to STU; BRA to BLE; LBRA to LBLE;
 // LBSR BSR CMPD CMPY LDY LDS STY STS, CMPU CMPS; ORCC ANDCC CWAI; LSL, BHS BLO LBHS LBLO.
+#[tactic(auto, unfolding(crate::specs::Quick::number_line, ground::specs::Choice::pick))]
 fn number_line(operation: u8) -> u64
     ensures { result ≡ number_line operation }
 {
@@ -26,6 +27,7 @@ fn number_line(operation: u8) -> u64
     }
 }
 
+#[tactic(auto, unfolding(crate::specs::Quick::number_digit))]
 fn number_digit(operation: u8) -> u8
     ensures { result ≡ number_digit operation }
 {
@@ -33,6 +35,7 @@ fn number_digit(operation: u8) -> u8
 }
 
 // The bytes of a number in a form. A direct address has one, an extended one two.
+#[tactic(auto, unfolding(crate::specs::Quick::number_bytes, ground::specs::Choice::pick))]
 fn number_bytes(told: u8, form: u8) -> u8
     ensures { result ≡ number_bytes told form }
 {
@@ -47,6 +50,7 @@ fn number_bytes(told: u8, form: u8) -> u8
 }
 
 // The bytes of number that follow the code; an indexed or a register row has a postbyte in their stead, and what is no row has none.
+#[tactic(auto, using(crate::proofs::Bytes::number_quick))]
 pub fn number_size(operation: u8, form: u8) -> u8
     ensures { result ≡ number_size_of operation form }
 {
@@ -54,6 +58,7 @@ pub fn number_size(operation: u8, form: u8) -> u8
 }
 
 // The bits of an immediate: 8 or 16, and 0 where the operation has no immediate form.
+#[tactic(auto, using(crate::proofs::Bytes::number_size_small), unfolding(crate::specs::Sizes::immediate_width_of))]
 pub fn immediate_width(operation: u8) -> u8
     ensures { result ≡ immediate_width_of operation }
 {
@@ -61,6 +66,7 @@ pub fn immediate_width(operation: u8) -> u8
 }
 
 // The least bytes after the code: none of an inherent row, two of a long branch, and one of any other.
+#[tactic(auto, unfolding(crate::specs::Quick::operand_bytes, ground::specs::Choice::pick))]
 fn operand_bytes(operation: u8) -> u8
     ensures { result ≡ operand_bytes operation }
 {
@@ -78,6 +84,7 @@ fn operand_bytes(operation: u8) -> u8
 
 // Whether an operation that is known and no alias has a form: if the form has bytes for it, or for an inherent row none. What has a direct form has an
 // indexed one; LEAX to LEAU, 142 and up, are indexed only.
+#[tactic(auto, unfolding(crate::specs::Quick::formed_of, ground::specs::Choice::pick))]
 pub(crate) fn is_formed(operation: u8, form: u8) -> bool
     ensures { result ≡ formed_of operation form }
 {
@@ -90,6 +97,7 @@ pub(crate) fn is_formed(operation: u8, form: u8) -> bool
     }
 }
 
+#[tactic(auto, using(crate::proofs::Bytes::operand_small), unfolding(crate::specs::Quick::row_bytes, ground::specs::Choice::pick))]
 fn row_bytes(operation: u8) -> u8
     ensures { result ≡ row_bytes operation }
 {
@@ -101,6 +109,7 @@ fn row_bytes(operation: u8) -> u8
 }
 
 // The least bytes of an operation over all its forms, and 0 of an unknown one.
+#[tactic(auto, using(crate::proofs::Bytes::size_quick), unfolding(ground::specs::Choice::pick))]
 pub fn smallest_size(operation: u8) -> u8
     ensures { result ≡ smallest_size_of operation }
 {
@@ -111,6 +120,7 @@ pub fn smallest_size(operation: u8) -> u8
 }
 
 // The long branch of a short one; any other operation is itself. Aliases are merged.
+#[tactic(auto, unfolding(crate::specs::Sizes::long_from, crate::specs::Sizes::long_of, ground::specs::Choice::pick))]
 pub fn long_of(operation: u8) -> u8
     ensures { result ≡ long_of operation }
 {

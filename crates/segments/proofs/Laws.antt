@@ -1,6 +1,6 @@
 -- One turn of each loop, as a law of the definitions: what is left to do, done from here, is what was to be done at the start.
 -- Assumes nothing.
-use mathlib.Core.Path.{◌≡◌, refl, ap}
+use mathlib.Core.Path.{◌≡◌, refl, sym, ap}
 use mathlib.Core.Bool.{Bool, true, false}
 use mathlib.Core.List.{List, [], ◌∷◌, ◌++◌}
 use Prim.Native.Nat.{ℕ, zero, suc, ◌+◌, ◌-◌, ◌≤◌, ◌<◌, min, max}
@@ -10,36 +10,22 @@ use native.Mathlib.Omega.{arith}
 use lib.Dec.{leb}
 use lib.ListN.{length, take, drop, get_or, set, drop_of_length-le}
 use lib.Seq.{take-take, length-take-le}
-use borrow.Author.Tests.{eq-eqb, ne_eqb, leb-false}
+use borrow.Author.Tests.{leb-false}
+use Rattle.std.proofs.Common.{Ok, Err}
 use Rattle.ground.specs.Choice.{pick}
 use Rattle.ground.proofs.Choices.{by_pick}
 use Rattle.ground.proofs.Stores.{drop_next}
-use Rattle.segments.specs.Segments.{holds_of, inserted, refusal_of, left_of, right_of, segment_in}
+use Rattle.ground.specs.declared.refusals.Refusal.TheVariants.{NoRoom, SegmentRepeated, OverLimit}
+use Rattle.segments.specs.Segments.{holds_of, inserted, counted_of, left_of, right_of, segment_in}
 use Rattle.segments.specs.Steps.{narrowed_by}
 use Rattle.segments.specs.declared.Segment.{Segment}
 
 -- a count beyond the table is the whole table
-take_used : (n : ℕ) (l : List ℕ) → take (min n (length l)) l ≡ take n l
+pub take_used : (n : ℕ) (l : List ℕ) → take (min n (length l)) l ≡ take n l
 take_used zero [] = refl
 take_used (suc n) [] = simp unary_clauses
 take_used zero (x ∷ l) = simp unary_clauses
 take_used (suc n) (x ∷ l) = simp unary_clauses (ap (λ (t : List ℕ). x ∷ t) (take_used n l))
-
-pub used : (u n : ℕ) (l : List ℕ) → u ≡ min n (length l) → take u l ≡ take n l
-used u n l e = rw e (take_used n l)
-
--- a search: what it asks of the rest is what it asks of the whole
-pub holds_skip : (x : ℕ) (l : List ℕ) (i : ℕ) → i < length l → (get_or l i 0 ≡ x → ⊥) → holds_of x (drop (i + 1) l) ≡ holds_of x (drop i l)
-unfolding holds_of
-holds_skip x l i h f = rw (drop_next l i h, ne_eqb _ _ f)
-
-pub holds_here : (x : ℕ) (l : List ℕ) (i : ℕ) → i < length l → get_or l i 0 ≡ x → holds_of x (drop i l) ≡ true
-unfolding holds_of
-holds_here x l i h e = rw (drop_next l i h, eq-eqb _ _ e)
-
-pub holds_end : (x : ℕ) (l : List ℕ) (i : ℕ) → length l ≤ i → holds_of x (drop i l) ≡ false
-unfolding holds_of
-holds_end x l i h = rw (drop_of_length-le l h)
 
 -- the first i numbers as they are, and the carried one put into the rest, up to the last place
 abbrev pub to_put : List ℕ → ℕ → ℕ → ℕ → List ℕ
@@ -125,19 +111,29 @@ onward_end g a l i h b =
     let f : max g.left 0 ≡ g.left = omega arith in
     rw (drop_of_length-le l h, e, f)
 
-passed : (a b c : Bool) → pick {A = ℕ} a 12 (pick b 17 (pick c 9 0)) ≡ 0 → (a ≡ false) × (c ≡ false)
-unfolding pick
-passed true b c h = absurd (omega arith)
-passed false true c h = absurd (omega arith)
-passed false false true h = absurd (omega arith)
-passed false false false h = (refl, refl)
-
 -- where nothing is refused, the start is not there yet, and there is room
-module _ (l : List ℕ) (count x : ℕ) (h : refusal_of l count x ≡ 0) where
-  pub absent : holds_of x (take count l) ≡ false
-  unfolding refusal_of
-  absent = (passed (holds_of x (take count l)) (leb 63 count) (leb (length l) count) h).0
+unrefused :
+    (a b c : Bool) (n m : ℕ) → pick a (Err SegmentRepeated) (pick b (Err OverLimit) (pick c (Err NoRoom) (Ok n))) ≡ Ok m →
+    (a ≡ false) × (b ≡ false) × (c ≡ false) × (m ≡ n)
+unfolding pick
+unrefused true b c n m h = absurd cc
+unrefused false true c n m h = absurd cc
+unrefused false false true n m h = absurd cc
+unrefused false false false n m h = (refl, refl, refl, cc)
 
+pub record Added (l : List ℕ) (count x next : ℕ) : Type 0 where
+  pub absent : holds_of x (take count l) ≡ false
+  pub under : count < 63
   pub room : count < length l
-  unfolding refusal_of
-  room = leb-false _ _ (passed (holds_of x (take count l)) (leb 63 count) (leb (length l) count) h).1
+  pub counted : next ≡ count + 1
+
+pub added_next : (l : List ℕ) (count x next : ℕ) → counted_of l count x ≡ Ok next → Added l count x next
+unfolding counted_of
+added_next l count x next h =
+    let p = unrefused (holds_of x (take count l)) (leb 63 count) (leb (length l) count) (count + 1) next h in
+    record { absent = p.0; under = leb-false _ _ p.1; room = leb-false _ _ p.2; counted = p.3 }
+
+pub lent_length : (l : List ℕ) (count x next : ℕ) → counted_of l count x ≡ Ok next → next ≡ length (take next l)
+lent_length l count x next h =
+    let a = added_next l count x next h in
+    sym (length-take-le next l (omega arith))

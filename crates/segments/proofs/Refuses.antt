@@ -6,21 +6,21 @@ use mathlib.Core.Logic.{◌⊎◌, inl, inr}
 use Prim.Native.Nat.{ℕ}
 use lib.Dec.{eqb, leb}
 use lib.ListN.{length, take}
-use Rattle.ground.specs.Refusals.{segment_repeated, over_limit, no_room}
+use Rattle.std.proofs.Common.{Result, Ok, Err}
+use Rattle.ground.specs.declared.refusals.Refusal.{Refusal}
+use Rattle.ground.specs.declared.refusals.Refusal.TheVariants.{NoRoom, SegmentRepeated, OverLimit}
 use Rattle.ground.proofs.Choices.{by_pick}
-use Rattle.segments.specs.declared.Added.{Added}
-use Rattle.segments.specs.Segments.{holds_of, refusal_of, added_to}
+use Rattle.segments.specs.Segments.{holds_of, counted_of, added_to}
 
 -- no refusal, 12, 17 or 9
-abbrev pub Adding : ℕ → Type 0
-Adding n = (n ≡ 0) ⊎ (n ≡ segment_repeated) ⊎ (n ≡ over_limit) ⊎ (n ≡ no_room)
+abbrev pub Adding : Result ℕ Refusal → Type 0
+Adding (Ok next) = Unit
+Adding (Err why) = (why ≡ SegmentRepeated) ⊎ (why ≡ OverLimit) ⊎ (why ≡ NoRoom)
 
-pub added_refuses : (l : List ℕ) (count x : ℕ) → Adding (added_to l count x).refusal
-unfolding added_to refusal_of
+pub added_refuses : (l : List ℕ) (count x : ℕ) → Adding (added_to l count x)
+unfolding added_to counted_of
 added_refuses l count x =
-    let P : Added → Type 0 = λ a. Adding a.refusal in
-    by_pick P (eqb x 0) (inl refl)
-    (by_pick P (eqb (refusal_of l count x) 0) (inl refl)
-    (by_pick Adding (holds_of x (take count l)) (inr (inl refl))
-    (by_pick Adding (leb 63 count) (inr (inr (inl refl)))
-    (by_pick Adding (leb (length l) count) (inr (inr (inr refl))) (inl refl)))))
+    by_pick Adding (eqb x 0) tt
+    (by_pick Adding (holds_of x (take count l)) (inl refl)
+    (by_pick Adding (leb 63 count) (inr (inl refl))
+    (by_pick Adding (leb (length l) count) (inr (inr refl)) tt)))

@@ -10,12 +10,13 @@ use native.Mathlib.Omega.{arith}
 use lib.Dec.{eqb, leb}
 use lib.ListN.{length, take, drop}
 use lib.Seq.{take_at, length-take-le}
-use borrow.Author.Tests.{leb-true, leb-false, eqb-true, eqb-false, ne_eqb}
+use borrow.Author.Tests.{leb-true, leb-false, eqb-false, ne_eqb}
 use Rattle.ground.specs.Choice.{pick}
 use Rattle.ground.proofs.Tests.{neither_left, neither_right}
-use Rattle.segments.specs.declared.Added.{Added}
-use Rattle.segments.specs.Segments.{holds_of, inserted, refusal_of, added_to, table_after}
-use Rattle.segments.proofs.Laws.{room, absent}
+use Rattle.std.proofs.Common.{Result, Ok, Err}
+use Rattle.ground.specs.declared.refusals.Refusal.{Refusal}
+use Rattle.segments.specs.Segments.{holds_of, inserted, counted_of, added_to, placed, table_after}
+use Rattle.segments.proofs.Laws.{added_next}
 
 -- every one of these is above m
 abbrev pub Above : ℕ → List ℕ → Type 0
@@ -67,31 +68,39 @@ length_inserted x (s ∷ l) = let e = length_inserted (max x s) l in omega arith
 
 -- what is in use after a start was accepted
 in_use :
-    (l : List ℕ) (count x : ℕ) → refusal_of l count x ≡ 0 →
-    take (count + 1) (inserted x (take count l) ++ drop (count + 1) l) ≡ inserted x (take count l)
-in_use l count x h =
-    let r = room l count x h in
-    take_at (inserted x (take count l)) (drop (count + 1) l) (count + 1)
+    (l : List ℕ) (count x next : ℕ) → counted_of l count x ≡ Ok next →
+    take next (inserted x (take count l) ++ drop next l) ≡ inserted x (take count l)
+in_use l count x next h =
+    let a = added_next l count x next h in
+    take_at (inserted x (take count l)) (drop next l) next
     (omega (arith, length_inserted x (take count l), length-take-le count l (omega arith)))
 
+-- how many starts there are then: a refusal leaves the caller's count
+abbrev pub count_after : ℕ → Result ℕ Refusal → ℕ
+count_after count (Ok next) = next
+count_after count (Err why) = count
+
+placed_sorted :
+    (l : List ℕ) (count x : ℕ) (r : Result ℕ Refusal) → counted_of l count x ≡ r → Sorted (take count l) →
+    Sorted (take (count_after count r) (placed l count x r))
+unfolding placed
+placed_sorted l count x (Err why) h s = s
+placed_sorted l count x (Ok next) h s =
+    rw (in_use l count x next h) (inserted_sorted x (take count l) (added_next l count x next h).absent s)
+
 either_way :
-    (zeroth fine : Bool) (l new : List ℕ) (count r : ℕ) → Sorted (take count l) → (fine ≡ true → Sorted (take (count + 1) new)) →
-    let n : Added = pick zeroth (record { refusal = 0; count = count })
-    (pick fine (record { refusal = 0; count = count + 1 }) (record { refusal = r; count = 0 })) in
-    Sorted (take n.count (pick zeroth l (pick fine new l)))
+    (zeroth : Bool) (l new : List ℕ) (count : ℕ) (r : Result ℕ Refusal) → Sorted (take count l) → Sorted (take (count_after count r) new) →
+    Sorted (take (count_after count (pick zeroth (Ok count) r)) (pick zeroth l new))
 unfolding pick
-either_way true fine l new count r s f = s
-either_way false true l new count r s f = f refl
-either_way false false l new count r s f = tt
+either_way true l new count r s t = s
+either_way false l new count r s t = t
 
 -- a sorted table is sorted after any `add`
-pub added_sorted : (l : List ℕ) (count x : ℕ) → Sorted (take count l) → Sorted (take (added_to l count x).count (table_after l count x))
+pub added_sorted : (l : List ℕ) (count x : ℕ) → Sorted (take count l) → Sorted (take (count_after count (added_to l count x)) (table_after l count x))
 unfolding added_to table_after
 added_sorted l count x s =
-    either_way (eqb x 0) (eqb (refusal_of l count x) 0) l (inserted x (take count l) ++ drop (count + 1) l) count (refusal_of l count x) s
-    (λ e.
-    let h = eqb-true (refusal_of l count x) 0 e in
-    rw (in_use l count x h) (inserted_sorted x (take count l) (absent l count x h) s))
+    either_way (eqb x 0) l (placed l count x (counted_of l count x)) count (counted_of l count x) s
+    (placed_sorted l count x (counted_of l count x) refl s)
 
 exchanged : (t : Bool) (x s y : ℕ) (b : Bool) → leb x s ≡ t → (eqb (min x s) y || (eqb (max x s) y || b)) ≡ (eqb x y || (eqb s y || b))
 exchanged true x s y b e = let h = leb-true x s e in rw (min-eq_left h, max-eq_right h)

@@ -1,40 +1,38 @@
 -- 01, "Labels, expressions, segments": "0 is always there", so a table holds the other starts only, sorted, in its first `count` places.
-use Rattle.std.specs.Prelude.{ℕ, ◌+◌, ◌-◌, min, max, Bool, false, ◌||◌, List, [], ◌∷◌, ◌++◌, length, take, drop, leb, eqb}
+use Rattle.std.specs.Prelude.{ℕ, ◌+◌, ◌-◌, min, max, Bool, List, [], ◌∷◌, ◌++◌, length, take, drop, leb, eqb, Result, Ok, Err}
+use Rattle.std.specs.List.{list_any}
 use Rattle.ground.specs.Choice.{pick}
-use Rattle.ground.specs.Refusals.{segment_repeated, over_limit, no_room}
-use Rattle.segments.specs.declared.Added.{Added}
+use Rattle.ground.specs.declared.refusals.Refusal.{Refusal}
+use Rattle.ground.specs.declared.refusals.Refusal.TheVariants.{NoRoom, SegmentRepeated, OverLimit}
 use Rattle.segments.specs.declared.Segment.{Segment}
 
 -- the start is one of these
 unfoldable pub holds_of : ℕ → List ℕ → Bool
-holds_of x [] = false
-holds_of x (s ∷ ss) = eqb s x || holds_of x ss
+holds_of x l = list_any (λ s. eqb s x) l
 
 -- the start put into a sorted list: the lower of the two goes first, the higher is put into the rest
 unfoldable pub inserted : ℕ → List ℕ → List ℕ
 inserted x [] = x ∷ []
 inserted x (s ∷ ss) = min x s ∷ inserted (max x s) ss
 
--- the refusal for a start other than 0, 0 for none: "segment start repeated", "more than .. 64 segments" (63 and 0 are 64), "lent buffer too short"
-unfoldable pub refusal_of : List ℕ → ℕ → ℕ → ℕ
-refusal_of l count x =
-    pick (holds_of x (take count l)) segment_repeated
-    (pick (leb 63 count) over_limit
-    (pick (leb (length l) count) no_room 0))
+-- adding a start other than 0: "segment start repeated", "more than .. 64 segments" (63 and 0 are 64), "lent buffer too short", and else the count after it
+unfoldable pub counted_of : List ℕ → ℕ → ℕ → Result ℕ Refusal
+counted_of l count x =
+    pick (holds_of x (take count l)) (Err SegmentRepeated)
+    (pick (leb 63 count) (Err OverLimit)
+    (pick (leb (length l) count) (Err NoRoom) (Ok (count + 1))))
 
 -- the answer to adding a start: 0 is there already
-unfoldable pub added_to : List ℕ → ℕ → ℕ → Added
-added_to l count x =
-    pick (eqb x 0) (record { refusal = 0; count = count })
-    (pick (eqb (refusal_of l count x) 0)
-    (record { refusal = 0; count = count + 1 })
-    (record { refusal = refusal_of l count x; count = 0 }))
+unfoldable pub added_to : List ℕ → ℕ → ℕ → Result ℕ Refusal
+added_to l count x = pick (eqb x 0) (Ok count) (counted_of l count x)
 
--- the table after it: the start stands among the others, and what lies beyond is as it was
+-- the table after it: a refusal leaves it; else the start stands among the others, and what lies beyond is as it was
+unfoldable pub placed : List ℕ → ℕ → ℕ → Result ℕ Refusal → List ℕ
+placed l count x (Ok next) = inserted x (take count l) ++ drop next l
+placed l count x (Err why) = l
+
 unfoldable pub table_after : List ℕ → ℕ → ℕ → List ℕ
-table_after l count x =
-    pick (eqb x 0) l
-    (pick (eqb (refusal_of l count x) 0) (inserted x (take count l) ++ drop (count + 1) l) l)
+table_after l count x = pick (eqb x 0) l (placed l count x (counted_of l count x))
 
 -- "the greatest start not above the address": 0 is one
 unfoldable pub left_of : ℕ → List ℕ → ℕ

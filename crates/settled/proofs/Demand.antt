@@ -7,11 +7,14 @@ use mathlib.Core.Logic.{inl}
 use Prim.Native.Nat.{ℕ, zero, suc, ◌+◌, ◌%◌, ◌≤◌, ◌<◌}
 use native.Mathlib.Nat.{zero-add}
 use native.Mathlib.Omega.{arith}
-use lib.Dec.{eqb, ltb}
+use lib.Dec.{ltb}
 use lib.ListN.{length, length-append}
-use borrow.Author.Tests.{eq-eqb, eqb-true}
+use borrow.Author.Tests.{eq-eqb}
+use Rattle.std.specs.Prelude.{Option, Some, None, Result, Ok, Err, is_ok}
+use Rattle.std.specs.Option.{unwrap_or}
 use Rattle.ground.specs.Choice.{pick}
-use Rattle.ground.proofs.Choices.{pick_false, by_pick, by_test}
+use Rattle.ground.specs.declared.refusals.Refusal.{Refusal}
+use Rattle.ground.proofs.Choices.{by_pick}
 use Rattle.values.specs.declared.pages.Page.{Page}
 use Rattle.values.specs.declared.pages.Page.TheVariants.{Known}
 use Rattle.values.specs.Pages.{meets}
@@ -23,8 +26,10 @@ use Rattle.records.proofs.Runs.{runs_on}
 use Rattle.reader.specs.Answers.{runs_in}
 use Rattle.reader.proofs.Round.{tables_read}
 use Rattle.instruction.specs.declared.Record.{Record}
-use Rattle.instruction.specs.Building as building
-use Rattle.meanings.proofs.Decodes.{fresh_sized}
+use Rattle.instruction.specs.declared.Built.{Built}
+use Rattle.meanings.proofs.Decodes.{told_some}
+use Rattle.instruction.specs.Building.{told, bytes_told, size_told}
+use Rattle.instruction.proofs.Padded.{fresh_told}
 use Rattle.laying.specs.Laying.{built_at}
 use Rattle.laying.specs.Exactly.{all_built, bytes_from}
 use Rattle.laying.specs.Meant.{all_meet}
@@ -34,13 +39,14 @@ use Rattle.statements.specs.declared.Statement.{Statement}
 use Rattle.statements.specs.declared.Statement.TheVariants.{Label, Instruction, Rmb, Fcb, Fdb, Fcc, Org, Setdp, Unknown}
 use Rattle.statements.specs.declared.Effect.{Effect}
 use Rattle.statements.specs.Listing.{rows_of, statement_at, entry_at}
-use Rattle.statements.specs.Effects.{instruction_effect, setdp_effect, effect_of, effect_at}
+use Rattle.statements.specs.Asking.{asked_of}
+use Rattle.statements.specs.Effects.{made_of, instruction_effect, setdp_effect, effect_of, effect_at}
 use Rattle.statements.specs.Turns.{turned}
 use Rattle.statements.proofs.Told.{instruction_fresh}
 use Rattle.statements.proofs.Pages.{instruction_turns}
 use Rattle.passes.specs.declared.Ended.{Ended}
 use Rattle.passes.specs.Walks.{Source, walk_to, walk_of}
-use Rattle.passes.specs.Passes.{Outcome, pass_of, passed_of, answer_of, too_many, ended_of}
+use Rattle.passes.specs.Passes.{Outcome, pass_of, passed_of, end_of, answer_of, too_many, ended_of}
 use Rattle.passes.proofs.Fine.{fine_all}
 use Rattle.passes.proofs.Rests.{Rests, ended_rests}
 use Rattle.assembly.specs.Objects.{gather, address_at, page_at, objects_of, values_of}
@@ -74,7 +80,7 @@ module _ (src : Source) (o : Outcome) (i : ℕ) (s : Stands src o i) where
   setdp_next number is =
       s.at
       ∙ rw is
-      (by_pick (λ (e : Effect). pick e.moves e.to (address_at src o i + e.size) ≡ address_at src o i) (ltb number 256) (omega arith) (omega arith))
+      (by_pick (λ (e : Effect). unwrap_or e.to (address_at src o i + e.size) ≡ address_at src o i) (ltb number 256) (omega arith) (omega arith))
 
   setdp_made : (number : ℕ) → statement_at src.list i ≡ Setdp number → made_in src o i ≡ []
   unfolding made_in pick
@@ -97,23 +103,27 @@ module _ (src : Source) (o : Outcome) (i : ℕ) (s : Stands src o i) where
         effect_of x (entry_at src.list i) src.items src.nodes o.table (address_at src o i % 65536) (page_at src o i) false)
         is
 
-    does_stay : does.moves ≡ false
-    unfolding does instruction_effect
-    does_stay = by_pick (λ (x : Effect). x.moves ≡ false) _ refl refl
+    does_stay : does.to ≡ None
+    unfolding does
+    does_stay = stay (made_of (entry_at src.list i) (asked_of src.nodes o.table node (address_at src o i % 65536)) false (page_at src o i) (address_at src o i % 65536))
+      where
+        stay : (m : Result Built Refusal) → (instruction_effect (entry_at src.list i) m).to ≡ None
+        stay (Ok b) = refl
+        stay (Err why) = refl
 
-    does_size : does.size ≡ (built_in src o i node s is).length
+    does_size : does.size ≡ size_told (built_in src o i node s is)
     unfolding does
     does_size =
         (instruction_fresh node (entry_at src.list i) src.items src.nodes o.table (address_at src o i % 65536) (page_at src o i) false
         (sym (ap (λ (x : Effect). x.refusal) own_does) ∙ s.accepted)).counted
 
-    instruction_next : address_at src o (i + 1) ≡ address_at src o i + (built_in src o i node s is).length
+    instruction_next : address_at src o (i + 1) ≡ address_at src o i + size_told (built_in src o i node s is)
     instruction_next =
         s.at
-        ∙ pick_false _ _ (ap (λ (x : Effect). x.moves) own_does ∙ does_stay)
+        ∙ ap (λ (to : Option ℕ). unwrap_or to (address_at src o i + (own src o i).size)) (ap (λ (x : Effect). x.to) own_does ∙ does_stay)
         ∙ ap (λ (n : ℕ). address_at src o i + n) (ap (λ (x : Effect). x.size) own_does ∙ does_size)
 
-    instruction_near : address_at src o i + (built_in src o i node s is).length ≤ 65536
+    instruction_near : address_at src o i + size_told (built_in src o i node s is) ≤ 65536
     instruction_near = omega (arith, s.near, ap (λ (x : Effect). x.size) own_does, does_size)
 
     instruction_made : made_in src o i ≡ With (address_at src o i % 65536) (bytes_in src o i) ∷ []
@@ -126,14 +136,14 @@ module _ (src : Source) (o : Outcome) (i : ℕ) (s : Stands src o i) where
 
 -- ---- a record laid before others
 lay_more :
-    (r : Record) (rs : List Record) (at next : ℕ) → (built_at r at).refusal ≡ 0 → next ≡ at + (built_at r at).length → all_built rs next ≡ true →
+    (r : Record) (rs : List Record) (at next : ℕ) → told (built_at r at) ≡ 0 → next ≡ at + size_told (built_at r at) → all_built rs next ≡ true →
     all_built (r ∷ rs) at ≡ true
 unfolding all_built
-lay_more r rs at next z e b = rw (eq-eqb (built_at r at).refusal 0 z, ← e) b
+lay_more r rs at next z e b = rw (eq-eqb (told (built_at r at)) 0 z, ← e) b
 
 bytes_more :
-    (r : Record) (rs : List Record) (at next : ℕ) → next ≡ at + (built_at r at).length →
-    bytes_from (r ∷ rs) at ≡ building.bytes_in (built_at r at) ++ bytes_from rs next
+    (r : Record) (rs : List Record) (at next : ℕ) → next ≡ at + size_told (built_at r at) →
+    bytes_from (r ∷ rs) at ≡ bytes_told (built_at r at) ++ bytes_from rs next
 unfolding bytes_from
 bytes_more r rs at next e = rw e
 
@@ -198,11 +208,12 @@ module _
           let rest = records_from src o n (i + 1) in
           let z = built_accepted src o i node s is in
           let next = instruction_next src o i s node is in
-          let sized = fresh_sized r (at % 65536) z in
+          let some = told_some r (at % 65536) z in
+          let sized = (fresh_told r (at % 65536)).size in
           let same = built_bytes src o i node s is in
           let near = instruction_near src o i s node is in
-          let inside : at % 65536 ≡ at = omega (arith, sized.some) in
-          let on : address_at src o (i + 1) ≡ at % 65536 + length (bytes_in src o i) = omega (arith, next, inside, sized.bytes, ap length same) in
+          let inside : at % 65536 ≡ at = omega (arith, some) in
+          let on : address_at src o (i + 1) ≡ at % 65536 + length (bytes_in src o i) = omega (arith, next, inside, sized, ap length same) in
           let later = bytes_from rest (address_at src o (i + 1)) in
           let list = ap (λ (l : List Record). l ++ rest) (instruction_records src o i s node is) in
           let bytes : bytes_from (records_in src o i ++ rest) at ≡ bytes_in src o i ++ later =
@@ -243,7 +254,12 @@ module _
       laid (suc n) i h = after n i (omega arith) (laid n (i + 1) (omega arith)) (statement_at src.list i) refl (code i (omega arith))
 
 -- ---- a list that settles with no refusal
-module _ (src : Source) (ls : List ℕ) (z : (ended_of src ls).refusal ≡ 0) where
+none_refused : (o : Option Refusal) (at : ℕ) → is_ok (end_of o at) ≡ true → o ≡ None
+unfolding end_of
+none_refused None at e = refl
+none_refused (Some why) at e = absurd cc
+
+module _ (src : Source) (ls : List ℕ) (z : is_ok (ended_of src ls).end ≡ true) where
   rests : (too_many src.list src.nodes ≡ false) × Rests src (passed_of src ls)
   rests = ended_rests src ls (too_many src.list src.nodes) refl (inl z)
 
@@ -257,13 +273,10 @@ module _ (src : Source) (ls : List ℕ) (z : (ended_of src ls).refusal ≡ 0) wh
   all_fine =
       let o = passed_of src ls in
       let s = (pass_of src o.table o.sizes).state in
-      let why : o.answer.refusal ≡ s.refusal =
-      ap (λ (e : Ended). e.refusal) rests.1.answers
-      ∙ by_test (λ (e : Ended). e.refusal ≡ s.refusal) (eqb s.refusal 0) (λ q. sym (eqb-true _ 0 q)) (λ _. refl) in
-      let none : s.refusal ≡ 0 = sym why ∙ sym (ap (λ (e : Ended). e.refusal) ended_passed) ∙ z in
+      let end : is_ok (end_of s.refusal s.at) ≡ true =
+      ap (λ (e : Ended). is_ok e.end) (sym rests.1.answers) ∙ ap (λ (e : Ended). is_ok e.end) (sym ended_passed) ∙ z in
       ap (λ (e : Ended). e.fine) rests.1.answers
-      ∙ by_pick (λ (e : Ended). e.fine ≡ s.fine) (eqb s.refusal 0) refl refl
-      ∙ fine_all src o.table o.sizes (rows_of src.list) none
+      ∙ fine_all src o.table o.sizes (rows_of src.list) (none_refused s.refusal s.at end)
 
   -- the text is read back as the runs of the statements' own objects
   text_runs :

@@ -6,7 +6,10 @@ use mathlib.Core.List.{List, [], ◌∷◌, map}
 use Prim.Native.Nat.{ℕ}
 use lib.Dec.{eqb}
 use lib.ListN.{length, replicate}
+use Rattle.std.specs.Prelude.{Option, None, Some}
 use Rattle.ground.specs.Choice.{pick}
+use Rattle.ground.specs.declared.refusals.Refusal.{Refusal}
+use Rattle.ground.specs.Refusals.{number_of}
 use Rattle.values.specs.declared.pages.Page.{Page}
 use Rattle.values.specs.declared.pages.Page.TheVariants.{Unknown, Known}
 use Rattle.values.specs.Widths.{bits_of, valid_of, widened_of}
@@ -19,21 +22,21 @@ use Rattle.postbytes.specs.Lists.{any_unknown, strange_list, among, size_of}
 use Rattle.postbytes.specs.ListsWritten.{paired_of}
 use Rattle.postbytes.specs.ListsWritten as written
 use Rattle.records.specs.Objects.{bytes_of}
-use Rattle.expressions.specs.Finding.{first_of, joined, row_at, label_row, node_in, label_in, node_value, label_value}
-use Rattle.expressions.specs.Answers.{narrow_of, value_of, answer_of, pair_of, evaluation, evaluations}
+use Rattle.expressions.specs.Finding.{row_at, label_row, node_in, label_in, node_value, label_value}
+use Rattle.expressions.specs.Answers.{narrow_of, value_of, evaluation, evaluations}
 use Rattle.instruction.specs.Names.{mode_register, mode_extended, mode_immediate, tfr}
 use Rattle.instruction.specs.Records.{stepped, recognised, narrower, agreeing, lawful, sound}
 use Rattle.instruction.specs.Forms.{becomes_direct, extended_form, register_form, form_of, strays, lacks, needs_value}
 use Rattle.instruction.specs.Choosing.{immediate_of, anew_as, anew_of, address_of, is_pair, own_stack, listed_of, registers_of, choose_of}
 use Rattle.instruction.specs.Bytes.{number_bytes, operand_bytes, code_size, behind_code, laid_at, laid_of}
-use Rattle.instruction.specs.Building.{no_values, instruction_of, made_as, make_of, operand_refusal, early_of, dirties_of, accepted_of, finished_of, build_of, handed, fresh_from, fresh_of}
+use Rattle.instruction.specs.Building.{no_values, instruction_of, made_as, make_of, operand_refusal, early_of, dirties_of, accepted_of, tried_of, fresh_of}
 use Rattle.statements.specs.declared.Effect.{Effect}
 use Rattle.statements.specs.Order.{place_of, earlier}
 use Rattle.entries.specs.Entries.{byte_in, is_flag, flag_in, flagged_in, registers_in, fields_in, told_in, operand_of}
 use Rattle.statements.specs.Listing.{none, number_at, item_at, statement_of, statement_at, operand_row, entry_in, entry_at, object_of}
-use Rattle.statements.specs.Asking.{asked_of, wanted_of, byte_of, word_of, character_of, answers_from}
+use Rattle.statements.specs.Asking.{asked_of, wanted_of, character_of, answers_from}
 use Rattle.statements.specs.Turns.{turned}
-use Rattle.statements.specs.Effects.{own_label, entry_refusal, built_of, instruction_refusal, instruction_effect, number_refusal, reserved_effect, origin_effect, setdp_effect, data_refusal, effect_at, counted_of}
+use Rattle.statements.specs.Effects.{own_label, labelled, entry_refusal, made_of, setdp_effect, data_refusal, effect_at, counted_of}
 use Rattle.statements.specs.Objects.{values_at, bytes_at}
 
 -- what is said of a statement: its bytes, or what it counts without bytes, or where it moves to, or its refusal with what it counts all the same
@@ -43,11 +46,14 @@ pub data Said : Type 0 where
   moves : ℕ → Said
   refused : ℕ → ℕ → Said
 
+abbrev said_as : Option Refusal → Option ℕ → ℕ → ℕ → List ℕ → Said
+said_as None None size object data_bytes = pick (eqb object 1) (bytes data_bytes) (space size)
+said_as None (Some to) size object data_bytes = moves to
+said_as (Some why) to size object data_bytes = refused (number_of why) size
+
 abbrev said : Effect → ℕ → List ℕ → Said
 said e object data_bytes =
-    pick (eqb e.refusal 0)
-    (pick e.moves (moves e.to) (pick (eqb object 1) (bytes data_bytes) (space e.size)))
-    (refused e.refusal e.size)
+    said_as e.refusal e.to e.size object data_bytes
 
 -- a row, its items, whether its own label is ill, and the running address
 pub record Question : Type 0 where
@@ -187,7 +193,7 @@ answered =
     ∷ []
 
 pub cases : map ask asked ≡ answered
-unfolding pick bits_of valid_of widened_of page0 page10 page11 table_of merged_of placed has_form_of known_of code_of is_wide is_long sizes.number_at number_size_of least_at smallest_size_of any_unknown strange_list bytes_of first_of joined row_at label_row node_in label_in node_value label_value narrow_of value_of answer_of pair_of evaluation evaluations stepped recognised narrower agreeing lawful sound form_of strays lacks needs_value immediate_of choose_of number_bytes operand_bytes code_size behind_code laid_at laid_of no_values instruction_of made_as make_of operand_refusal early_of dirties_of accepted_of finished_of build_of handed fresh_from fresh_of place_of earlier number_at item_at statement_of statement_at byte_in is_flag flag_in flagged_in registers_in fields_in told_in operand_of operand_row entry_in entry_at asked_of wanted_of byte_of word_of character_of answers_from own_label entry_refusal built_of instruction_refusal instruction_effect number_refusal reserved_effect origin_effect data_refusal effect_at counted_of values_at
+unfolding pick bits_of valid_of widened_of page0 page10 page11 table_of merged_of placed has_form_of known_of code_of is_wide is_long sizes.number_at number_size_of least_at smallest_size_of any_unknown strange_list bytes_of row_at label_row node_in label_in node_value label_value narrow_of value_of evaluation evaluations stepped recognised narrower agreeing lawful sound form_of strays lacks needs_value immediate_of choose_of number_bytes operand_bytes code_size behind_code laid_at laid_of no_values instruction_of made_as make_of operand_refusal early_of dirties_of accepted_of tried_of fresh_of place_of earlier number_at item_at statement_of statement_at byte_in is_flag flag_in flagged_in registers_in fields_in told_in operand_of operand_row entry_in entry_at asked_of wanted_of character_of answers_from own_label entry_refusal labelled made_of data_refusal effect_at counted_of values_at
 cases = refl
 
 -- ---- under a page: what is said of the statement, and the page after it
@@ -226,5 +232,5 @@ answered_under =
     ∷ []
 
 pub page_cases : map ask_under asked_under ≡ answered_under
-unfolding pick bits_of valid_of page0 page10 page11 table_of merged_of placed has_form_of known_of code_of is_wide is_long sizes.number_at number_size_of least_at smallest_size_of any_unknown strange_list among size_of paired_of written.code_of bytes_of row_at node_in node_value narrow_of value_of pair_of evaluations stepped recognised narrower agreeing lawful sound becomes_direct extended_form register_form form_of strays lacks needs_value anew_as anew_of address_of is_pair own_stack listed_of registers_of choose_of number_bytes operand_bytes code_size behind_code laid_at laid_of no_values instruction_of made_as make_of operand_refusal early_of dirties_of accepted_of finished_of build_of handed fresh_from fresh_of place_of earlier number_at statement_of statement_at byte_in is_flag flag_in flagged_in registers_in fields_in told_in operand_of operand_row entry_in entry_at asked_of own_label entry_refusal built_of instruction_refusal instruction_effect setdp_effect effect_at counted_of values_at
+unfolding pick bits_of valid_of page0 page10 page11 table_of merged_of placed has_form_of known_of code_of is_wide is_long sizes.number_at number_size_of least_at smallest_size_of any_unknown strange_list among size_of paired_of written.code_of bytes_of row_at node_in node_value narrow_of value_of evaluations stepped recognised narrower agreeing lawful sound becomes_direct extended_form register_form form_of strays lacks needs_value anew_as anew_of address_of is_pair own_stack listed_of registers_of choose_of number_bytes operand_bytes code_size behind_code laid_at laid_of no_values instruction_of made_as make_of operand_refusal early_of dirties_of accepted_of tried_of fresh_of place_of earlier number_at statement_of statement_at byte_in is_flag flag_in flagged_in registers_in fields_in told_in operand_of operand_row entry_in entry_at asked_of own_label entry_refusal labelled made_of setdp_effect effect_at counted_of values_at
 page_cases = refl

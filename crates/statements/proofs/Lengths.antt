@@ -8,12 +8,14 @@ use native.Mathlib.Omega.{arith}
 use lib.Dec.{leb}
 use lib.ListN.{length}
 use borrow.Author.Tests.{leb-true, leb-false}
+use Rattle.std.specs.Prelude.{Result}
+use Rattle.ground.specs.declared.refusals.Refusal.{Refusal}
 use Rattle.ground.specs.Stores.{put}
 use Rattle.ground.proofs.Stores.{put_past}
 use Rattle.ground.proofs.Choices.{by_test}
 use Rattle.values.specs.declared.pages.Page.{Page}
-use Rattle.expressions.specs.declared.Answer.{Answer}
-use Rattle.instruction.specs.Building.{bytes_in}
+use Rattle.values.specs.declared.Value.{Value}
+use Rattle.instruction.specs.Building.{bytes_told}
 use Rattle.statements.specs.declared.Statement.{Statement}
 use Rattle.statements.specs.declared.Statement.TheVariants.{Label, Instruction, Rmb, Fcb, Fdb, Fcc, Org, Setdp, Unknown}
 use Rattle.statements.specs.declared.Entry.{Entry}
@@ -31,7 +33,7 @@ unfolding answers_from
 answers_length kind items ns ls here first zero = refl
 answers_length kind items ns ls here first (suc n) = ap suc (answers_length kind items ns ls here (first + 1) n)
 
-rows_length : (answers : List Answer) → length (rows_in answers) ≡ 2 * length answers
+rows_length : (answers : List (Result Value Refusal)) → length (rows_in answers) ≡ 2 * length answers
 rows_length [] = refl
 rows_length (a ∷ more) = let e = rows_length more in omega arith
 
@@ -48,7 +50,7 @@ values_even : (s : Statement) (e : Entry) (items ns ls : List ℕ) (here : ℕ) 
     length (values_of s e items ns ls here page) ≡ 2 * count_in (values_of s e items ns ls here page)
 values_even Label e items ns ls here page = refl
 values_even (Instruction node) e items ns ls here page =
-    omega (arith, byte_rows_length (bytes_in (built_of e (asked_of ns ls node here) page here)))
+    omega (arith, byte_rows_length (bytes_told (built_of e (asked_of ns ls node here) page here)))
 values_even (Rmb node) e items ns ls here page = refl
 values_even (Fcb first n) e items ns ls here page = omega (arith, rows_length (answers_from Byte items ns ls here first n))
 values_even (Fdb first n) e items ns ls here page = omega (arith, rows_length (answers_from Word items ns ls here first n))

@@ -5,14 +5,18 @@ use mathlib.Core.Bool.{Bool, true, false}
 use mathlib.Core.List.{List, []}
 use Prim.Native.Nat.{ℕ, ◌+◌, ◌<◌}
 use native.Mathlib.Omega.{arith}
-use lib.Dec.{eqb, ltb, leb}
+use lib.Dec.{ltb, leb}
 use borrow.Author.Tests.{ltb-true, ltb-false, lt-ltb}
 use Rattle.ground.specs.Choice.{pick}
-use Rattle.ground.specs.Refusals.{unknown}
+use Rattle.std.specs.Prelude.{None, Some, Result, Ok, Err}
+use Rattle.ground.specs.declared.refusals.Refusal.{Refusal}
+use Rattle.ground.specs.declared.refusals.Refusal.TheVariants as refusal
 use Rattle.ground.proofs.Choices.{by_test, by_pick}
+use Rattle.values.specs.declared.Value.{Value}
 use Rattle.values.specs.declared.pages.Page.{Page}
 use Rattle.values.specs.declared.pages.Page.TheVariants as pages
-use Rattle.instruction.specs.Building.{fresh_of}
+use Rattle.instruction.specs.declared.Built.{Built}
+use Rattle.instruction.specs.Building.{fresh_of, dirties_told}
 use Rattle.statements.specs.declared.Statement.{Statement}
 use Rattle.statements.specs.declared.Statement.TheVariants.{Label, Instruction, Rmb, Fcb, Fdb, Fcc, Org, Setdp, Unknown}
 use Rattle.statements.specs.declared.Entry.{Entry}
@@ -21,27 +25,35 @@ use Rattle.statements.specs.declared.Effect.{Effect}
 use Rattle.statements.specs.Listing.{none, statement_at, entry_at, object_of}
 use Rattle.statements.specs.Asking.{asked_of, wanted_of}
 use Rattle.statements.specs.Turns.{turned}
-use Rattle.statements.specs.Effects.{record_of, built_of, instruction_refusal, instruction_effect, number_refusal, reserved_effect, origin_effect, setdp_effect, effect_of, effect_at, counted_of}
+use Rattle.statements.specs.Effects.{labelled, record_of, made_of, instruction_effect, reserved_effect, origin_effect, setdp_effect, effect_of, effect_at, counted_of}
 use Rattle.statements.specs.Objects.{values_at}
 use Rattle.statements.proofs.Told.{instruction_fresh}
 
 -- ---- a refused statement
 abbrev Kept : Effect → Type 0
-Kept x = (x.refusal ≡ 0 → ⊥) → x.turn ≡ Keeps
+Kept x = (x.refusal ≡ None → ⊥) → x.turn ≡ Keeps
+
+made_kept : (e : Entry) (m : Result Built Refusal) → Kept (instruction_effect e m)
+made_kept e (Ok b) = λ r. absurd (r refl)
+made_kept e (Err why) = λ _. refl
+
+reserved_kept : (a : Result Value Refusal) → (reserved_effect a).turn ≡ Keeps
+reserved_kept (Ok v) = refl
+reserved_kept (Err why) = refl
+
+origin_kept : (a : Result Value Refusal) → (origin_effect a).turn ≡ Keeps
+origin_kept (Ok v) = refl
+origin_kept (Err why) = refl
 
 effect_kept : (s : Statement) (e : Entry) (items ns ls : List ℕ) (here : ℕ) (page : Page) (ill : Bool) → Kept (effect_of s e items ns ls here page ill)
-unfolding instruction_effect reserved_effect origin_effect setdp_effect
+unfolding setdp_effect
 effect_kept Label e items ns ls here page ill = λ _. refl
-effect_kept (Instruction node) e items ns ls here page ill =
-    let b = built_of e (asked_of ns ls node here) page here in
-    by_pick Kept (eqb (instruction_refusal e (asked_of ns ls node here) ill b) 0) (λ r. absurd (r refl)) (λ _. refl)
-effect_kept (Rmb node) e items ns ls here page ill =
-    by_pick Kept (eqb (number_refusal (wanted_of ns ls node here) ill) 0) (λ _. refl) (λ _. refl)
+effect_kept (Instruction node) e items ns ls here page ill = made_kept e (made_of e (asked_of ns ls node here) ill page here)
+effect_kept (Rmb node) e items ns ls here page ill = λ _. reserved_kept (labelled (wanted_of ns ls node here) ill)
 effect_kept (Fcb first count) e items ns ls here page ill = λ _. refl
 effect_kept (Fdb first count) e items ns ls here page ill = λ _. refl
 effect_kept (Fcc first count) e items ns ls here page ill = λ _. refl
-effect_kept (Org node) e items ns ls here page ill =
-    by_pick Kept (eqb (number_refusal (wanted_of ns ls node 0) ill) 0) (λ _. refl) (λ _. refl)
+effect_kept (Org node) e items ns ls here page ill = λ _. origin_kept (labelled (wanted_of ns ls node 0) ill)
 effect_kept (Setdp number) e items ns ls here page ill =
     by_pick Kept (ltb number 256) (by_pick Kept ill (λ _. refl) (λ r. absurd (r refl))) (λ _. refl)
 effect_kept Unknown e items ns ls here page ill = λ _. refl
@@ -50,16 +62,13 @@ effect_kept Unknown e items ns ls here page ill = λ _. refl
 others_kept :
     (s : Statement) (e : Entry) (items ns ls : List ℕ) (here : ℕ) (page : Page) (ill : Bool) →
     ((node : ℕ) → s ≡ Instruction node → ⊥) → ((number : ℕ) → s ≡ Setdp number → ⊥) → (effect_of s e items ns ls here page ill).turn ≡ Keeps
-unfolding reserved_effect origin_effect
 others_kept Label e items ns ls here page ill f g = refl
 others_kept (Instruction node) e items ns ls here page ill f g = absurd (f node refl)
-others_kept (Rmb node) e items ns ls here page ill f g =
-    by_pick (λ (x : Effect). x.turn ≡ Keeps) (eqb (number_refusal (wanted_of ns ls node here) ill) 0) refl refl
+others_kept (Rmb node) e items ns ls here page ill f g = reserved_kept (labelled (wanted_of ns ls node here) ill)
 others_kept (Fcb first count) e items ns ls here page ill f g = refl
 others_kept (Fdb first count) e items ns ls here page ill f g = refl
 others_kept (Fcc first count) e items ns ls here page ill f g = refl
-others_kept (Org node) e items ns ls here page ill f g =
-    by_pick (λ (x : Effect). x.turn ≡ Keeps) (eqb (number_refusal (wanted_of ns ls node 0) ill) 0) refl refl
+others_kept (Org node) e items ns ls here page ill f g = origin_kept (labelled (wanted_of ns ls node 0) ill)
 others_kept (Setdp number) e items ns ls here page ill f g = absurd (g number refl)
 others_kept Unknown e items ns ls here page ill f g = refl
 
@@ -75,26 +84,26 @@ module _ (list items ns ls : List ℕ) (i here : ℕ) (page : Page) (ill : Bool)
 
   -- "An operation that dirtied the page now makes it unknown", where the instruction is accepted; another keeps the page
   pub instruction_turns :
-      (node : ℕ) → statement_at list i ≡ Instruction node → effect.refusal ≡ 0 →
-      turned effect.turn page ≡ pick (fresh_of (record_of (entry_at list i) (asked_of ns ls node here) page) here).dirties pages.Unknown page
+      (node : ℕ) → statement_at list i ≡ Instruction node → effect.refusal ≡ None →
+      turned effect.turn page ≡ pick (dirties_told (fresh_of (record_of (entry_at list i) (asked_of ns ls node here) page) here)) pages.Unknown page
   unfolding effect_at pick
   instruction_turns node s z =
       let b = fresh_of (record_of (entry_at list i) (asked_of ns ls node here) page) here in
-      rw (s, (instruction_fresh node (entry_at list i) items ns ls here page ill (rw s at z)).turned) (go b.dirties)
+      rw (s, (instruction_fresh node (entry_at list i) items ns ls here page ill (rw s at z)).turned) (go (dirties_told b))
     where
       go : (dirties : Bool) → turned (pick dirties Forgets Keeps) page ≡ pick dirties pages.Unknown page
       go true = refl
       go false = refl
 
   -- "no refused one dirties", nor does one set the page, nor what is 18 at a running address
-  pub refused_keeps : (effect.refusal ≡ 0 → ⊥) → turned effect.turn page ≡ page
+  pub refused_keeps : (effect.refusal ≡ None → ⊥) → turned effect.turn page ≡ page
   unfolding effect_at
   refused_keeps r = rw (effect_kept (statement_at list i) (entry_at list i) items ns ls here page ill r)
 
-  pub counted_keeps : (at : ℕ) → ((counted_of at effect).refusal ≡ 0 → ⊥) → turned (counted_of at effect).turn page ≡ page
+  pub counted_keeps : (at : ℕ) → ((counted_of at effect).refusal ≡ None → ⊥) → turned (counted_of at effect).turn page ≡ page
   unfolding effect_at counted_of
   counted_keeps at =
-      by_pick (λ (x : Effect). (x.refusal ≡ 0 → ⊥) → turned x.turn page ≡ page) (leb (at + effect.size) 65536) refused_keeps (λ _. refl)
+      by_pick (λ (x : Effect). (x.refusal ≡ None → ⊥) → turned x.turn page ≡ page) (leb (at + effect.size) 65536) refused_keeps (λ _. refl)
 
   -- every other kind keeps it
   pub others_keep :
@@ -107,14 +116,14 @@ module _ (list items ns ls : List ℕ) (i here : ℕ) (page : Page) (ill : Bool)
   -- "1 for another SETDP number", and for no other reason
   pub setdp_one :
       (number : ℕ) → statement_at list i ≡ Setdp number →
-      (255 < number → effect.refusal ≡ unknown) × (effect.refusal ≡ unknown → 255 < number)
+      (255 < number → effect.refusal ≡ Some refusal.Unknown) × (effect.refusal ≡ Some refusal.Unknown → 255 < number)
   unfolding effect_at setdp_effect
   setdp_one number s =
-      let P : Effect → Type 0 = λ x. (255 < number → x.refusal ≡ unknown) × (x.refusal ≡ unknown → 255 < number) in
+      let P : Effect → Type 0 = λ x. (255 < number → x.refusal ≡ Some refusal.Unknown) × (x.refusal ≡ Some refusal.Unknown → 255 < number) in
       rw s
       (by_test P (ltb number 256)
       (λ t. let small = ltb-true number 256 t in
-      by_pick P ill (λ h. absurd (omega arith), λ z. absurd (omega arith)) (λ h. absurd (omega arith), λ z. absurd (omega arith)))
+      by_pick P ill (λ h. absurd (omega arith), λ z. absurd (cc)) (λ h. absurd (omega arith), λ z. absurd (cc)))
       (λ t. (λ _. refl, λ _. omega (arith, ltb-false number 256 t))))
 
   -- it counts nothing, has no object and no values

@@ -6,17 +6,20 @@ use Prim.Native.Nat.{ℕ, suc, ◌+◌, ◌-◌, ◌*◌, ◌<◌, ◌≤◌}
 use native.Mathlib.Omega.{arith}
 use lib.ListN.{length, take, drop, get_or, drop_of_length-le, length-take}
 use lib.Seq.{length-take-le, get_or-take}
+use Rattle.std.specs.Prelude.{Option, Result}
+use Rattle.std.specs.Result.{result_err}
+use Rattle.ground.specs.declared.refusals.Refusal.{Refusal}
+use Rattle.values.specs.declared.Value.{Value}
 use Rattle.ground.specs.Stores.{put}
-use Rattle.ground.proofs.Stores.{put_length, drop_next}
-use Rattle.expressions.specs.declared.Answer.{Answer}
+use Rattle.ground.proofs.Stores.{drop_next}
 use Rattle.records.specs.Objects.{byte_rows}
 use Rattle.statements.specs.declared.Datum.{Datum}
 use Rattle.statements.specs.Order.{earlier, earliest}
 use Rattle.statements.specs.Listing.{item_at}
-use Rattle.statements.specs.Asking.{datum_of, answers_from, refusals_in, rows_in}
+use Rattle.statements.specs.Asking.{datum_of, answers_from, refusals_in, value_in, rows_in}
 
 -- the answers of the items from the k-th on
-abbrev pub left : Datum → List ℕ → List ℕ → List ℕ → ℕ → ℕ → ℕ → ℕ → List Answer
+abbrev pub left : Datum → List ℕ → List ℕ → List ℕ → ℕ → ℕ → ℕ → ℕ → List (Result Value Refusal)
 left kind items ns ls here first count k = answers_from kind items ns ls here (first + k) (count - k)
 
 module _ (kind : Datum) (items ns ls : List ℕ) (here first count : ℕ) where
@@ -43,17 +46,17 @@ module _ (kind : Datum) (items ns ls : List ℕ) (here first count : ℕ) where
 -- a row of two numbers stored, and then the rest after it
 pub row_turn :
     (d : List ℕ) {e : List ℕ} (a b place k : ℕ) (rest : List ℕ) → e ≡ put d (place + 2 * k) (a ∷ b ∷ []) →
-    (put e (place + 2 * (k + 1)) rest ≡ put d (place + 2 * k) (a ∷ b ∷ rest)) × (length e ≡ length d)
+    put e (place + 2 * (k + 1)) rest ≡ put d (place + 2 * k) (a ∷ b ∷ rest)
 row_turn d a b place k rest q =
     let at : place + 2 * (k + 1) ≡ place + 2 * k + 1 + 1 = omega arith in
-    (rw (q, at), ap length q ∙ put_length d (place + 2 * k) (a ∷ b ∷ []))
+    rw (q, at)
 
 module _ (kind : Datum) (items ns ls : List ℕ) (here first count : ℕ) where
   -- the refusal of the items from one on, where those after it are asked already
   pub refusal_turn :
-      {n why r : ℕ} {a : Answer} (k : ℕ) → 0 < k → k ≤ count →
+      {n : ℕ} {why r : Option Refusal} {a : Result Value Refusal} (k : ℕ) → 0 < k → k ≤ count →
       why ≡ earliest (refusals_in (left kind items ns ls here first count k)) →
-      n ≡ item_at items (first + (k - 1)) → a ≡ datum_of kind ns ls here n → r ≡ earlier a.refusal why →
+      n ≡ item_at items (first + (k - 1)) → a ≡ datum_of kind ns ls here n → r ≡ earlier (result_err a) why →
       r ≡ earliest (refusals_in (left kind items ns ls here first count (k - 1)))
   refusal_turn k some most asked item answer first_of =
       let next : k - 1 + 1 ≡ k = omega arith in
@@ -62,16 +65,14 @@ module _ (kind : Datum) (items ns ls : List ℕ) (here first count : ℕ) where
 
   -- the rows of the items from one on, where those before it are stored
   pub data_turn :
-      {n : ℕ} {a : Answer} (d : List ℕ) {e : List ℕ} (place k : ℕ) → k < count →
+      {n : ℕ} {a : Result Value Refusal} (d : List ℕ) {e : List ℕ} (place k : ℕ) → k < count →
       n ≡ item_at items (first + k) → a ≡ datum_of kind ns ls here n →
-      e ≡ put d (place + 2 * k) (a.value.number ∷ a.value.width ∷ []) →
-      (put e (place + 2 * (k + 1)) (rows_in (left kind items ns ls here first count (k + 1)))
-      ≡ put d (place + 2 * k) (rows_in (left kind items ns ls here first count k)))
-      × (length e ≡ length d)
+      e ≡ put d (place + 2 * k) ((value_in a).number ∷ (value_in a).width ∷ []) →
+      put e (place + 2 * (k + 1)) (rows_in (left kind items ns ls here first count (k + 1)))
+      ≡ put d (place + 2 * k) (rows_in (left kind items ns ls here first count k))
   data_turn {n} {a} d place k some item answer stored =
       let more = left_next kind items ns ls here first count k some in
-      let turn = row_turn d a.value.number a.value.width place k (rows_in (left kind items ns ls here first count (k + 1))) stored in
-      (turn.0 ∙ rw (answer, item, more), turn.1)
+      row_turn d (value_in a).number (value_in a).width place k (rows_in (left kind items ns ls here first count (k + 1))) stored ∙ rw (answer, item, more)
 
 -- the bytes from the k-th on
 pub bytes_next :

@@ -1,7 +1,7 @@
 -- What an accepted statement puts into its object: its values, as rows of number and width, and so its bytes.
 use Rattle.std.specs.Prelude.{ℕ, ◌/◌, List, [], length}
 use Rattle.values.specs.declared.pages.Page.{Page}
-use Rattle.instruction.specs.Building.{bytes_in}
+use Rattle.instruction.specs.Building.{bytes_told}
 use Rattle.records.specs.Objects.{data_of, byte_rows}
 use Rattle.statements.specs.declared.Statement.{Statement}
 use Rattle.statements.specs.declared.Statement.TheVariants.{Label, Instruction, Rmb, Fcb, Fdb, Fcc, Org, Setdp, Unknown}
@@ -14,7 +14,7 @@ use Rattle.statements.specs.Effects.{built_of}
 -- an instruction has its bytes, FCB and FCC values of 8 bits, FDB values of 16; the others have none
 abbrev pub values_of : Statement → Entry → List ℕ → List ℕ → List ℕ → ℕ → Page → List ℕ
 values_of Label e items ns ls here page = []
-values_of (Instruction node) e items ns ls here page = byte_rows (bytes_in (built_of e (asked_of ns ls node here) page here))
+values_of (Instruction node) e items ns ls here page = byte_rows (bytes_told (built_of e (asked_of ns ls node here) page here))
 values_of (Rmb node) e items ns ls here page = []
 values_of (Fcb first count) e items ns ls here page = rows_in (answers_from Byte items ns ls here first count)
 values_of (Fdb first count) e items ns ls here page = rows_in (answers_from Word items ns ls here first count)

@@ -1,25 +1,29 @@
 -- 01: "Order in a build: 1, 2, 11, 10, 3, 12, 17 (65th segment, 0 counted), 7, 6, 5, 4, 8, 9." Of the refusals that a statement meets, wherever in it they
 -- stand, the earliest in this order is given, and never one for the size of its number.
-use Rattle.std.specs.Prelude.{ℕ, ◌+◌, List, [], ◌∷◌, eqb, leb}
+use Rattle.std.specs.Prelude.{ℕ, ◌+◌, List, [], ◌∷◌, Option, None, Some, eqb, leb}
 use Rattle.ground.specs.Choice.{pick}
-use Rattle.ground.specs.Refusals.{unknown, no_such_mode, value_missing, bad_register, single_step_indirect, bad_width, direct_not_allowed, branch_too_far, no_room, bad_label, too_deep, segment_repeated, over_limit}
+use Rattle.ground.specs.declared.refusals.Refusal.{Refusal}
+use Rattle.ground.specs.declared.refusals.Refusal.TheVariants.{Unknown, NoSuchMode, ValueMissing, BadRegister, SingleStepIndirect, BadWidth, DirectNotAllowed, BranchTooFar, NoRoom, BadLabel, TooDeep, SegmentRepeated, OverLimit}
+use Rattle.ground.specs.Refusals.{number_of}
 
-abbrev pub order : List ℕ
+abbrev pub order : List Refusal
 order =
-    unknown ∷ no_such_mode ∷ too_deep ∷ bad_label ∷ value_missing ∷ segment_repeated ∷ over_limit ∷ direct_not_allowed ∷ bad_width ∷ single_step_indirect
-    ∷ bad_register ∷ branch_too_far ∷ no_room ∷ []
+    Unknown ∷ NoSuchMode ∷ TooDeep ∷ BadLabel ∷ ValueMissing ∷ SegmentRepeated ∷ OverLimit ∷ DirectNotAllowed ∷ BadWidth ∷ SingleStepIndirect
+    ∷ BadRegister ∷ BranchTooFar ∷ NoRoom ∷ []
 
--- where a number stands in a list; what it does not hold comes after all that it holds, and so 0, which is no refusal
-abbrev pub place_in : List ℕ → ℕ → ℕ
-place_in [] n = 0
-place_in (m ∷ ms) n = pick (eqb n m) 0 (1 + place_in ms n)
+-- where a refusal stands in a list; what it does not hold comes after all that it holds
+abbrev pub place_in : List Refusal → Refusal → ℕ
+place_in [] r = 0
+place_in (m ∷ ms) r = pick (eqb (number_of r) (number_of m)) 0 (1 + place_in ms r)
 
-unfoldable pub place_of : ℕ → ℕ
-place_of n = place_in order n
+-- no refusal comes after all refusals
+unfoldable pub place_of : Option Refusal → ℕ
+place_of None = 14
+place_of (Some r) = place_in order r
 
-unfoldable pub earlier : ℕ → ℕ → ℕ
+unfoldable pub earlier : Option Refusal → Option Refusal → Option Refusal
 earlier a b = pick (leb (place_of a) (place_of b)) a b
 
-abbrev pub earliest : List ℕ → ℕ
-earliest [] = 0
+abbrev pub earliest : List (Option Refusal) → Option Refusal
+earliest [] = None
 earliest (r ∷ rs) = earlier r (earliest rs)

@@ -3,16 +3,17 @@ ghost use Rattle.std.specs.Prelude.{◌≡◌};
 ghost use Rattle.statements.specs.Order.{earliest};
 ghost use Rattle.statements.specs.Asking.{asked_of, wanted_of, byte_of, word_of, character_of, datum_of, answers_from, refusals_in};
 
+use crate::Datum;
 use crate::listing::{NONE, item};
 use crate::order::earlier;
-use crate::{Asked, Datum};
-use expressions::{Answer, evaluate, evaluate_pair, refused};
-use ground::refusals::{BAD_WIDTH, UNKNOWN, VALUE_MISSING};
+use expressions::{evaluate, evaluate_pair};
+use ground::refusals::Refusal;
 use instruction::Values;
 use values::Value;
 
 // Both values of an instruction's operand, where it has one.
-pub(crate) fn ask(nodes: &[u16], labels: &[u16], node: u16, here: u16) -> Asked
+#[tactic(auto, unfolding(crate::specs::Asking::asked_of, instruction::specs::Building::no_values, ground::specs::Choice::pick))]
+pub(crate) fn ask(nodes: &[u16], labels: &[u16], node: u16, here: u16) -> Result<Values, Refusal>
     ensures { result ≡ asked_of nodes.now labels.now node here }
 {
     if node == NONE {
@@ -20,73 +21,71 @@ pub(crate) fn ask(nodes: &[u16], labels: &[u16], node: u16, here: u16) -> Asked
             number: 0,
             width: 0,
         };
-        let values = Values {
+        return Ok(Values {
             given: false,
             unsigned: nothing,
             signed: nothing,
-        };
-        return Asked { refusal: 0, values };
+        });
     }
-    let both = evaluate_pair(nodes, labels, node, here);
+    let both = evaluate_pair(nodes, labels, node, here)?;
     let unsigned = both.unsigned;
     let signed = both.signed;
-    let values = Values {
+    Ok(Values {
         given: true,
         unsigned,
         signed,
-    };
-    Asked {
-        refusal: both.refusal,
-        values,
-    }
+    })
 }
 
 // The unsigned value of a node that must be there.
-pub(crate) fn want(nodes: &[u16], labels: &[u16], node: u16, here: u16) -> Answer
+#[tactic(auto, unfolding(crate::specs::Asking::wanted_of, ground::specs::Choice::pick))]
+pub(crate) fn want(nodes: &[u16], labels: &[u16], node: u16, here: u16) -> Result<Value, Refusal>
     ensures { result ≡ wanted_of nodes.now labels.now node here }
 {
     if node == NONE {
-        return refused(VALUE_MISSING);
+        return Err(Refusal::ValueMissing);
     }
     evaluate(nodes, labels, node, here, false)
 }
 
 // FCB takes 8 bits.
-fn byte(answer: Answer) -> Answer
+#[tactic(auto, unfolding(ground::specs::Choice::pick))]
+fn byte(answer: Result<Value, Refusal>) -> Result<Value, Refusal>
     ensures { result ≡ byte_of answer }
 {
-    let value = answer.value;
-    let wide = (answer.refusal == 0) & !(value.width == 8);
-    if wide {
-        return refused(BAD_WIDTH);
+    let value = answer?;
+    if value.width == 8 {
+        return answer;
     }
-    answer
+    Err(Refusal::BadWidth)
 }
 
 // FDB has 16 bits, the high byte zero where there were 8.
-fn word(answer: Answer) -> Answer
+fn word(answer: Result<Value, Refusal>) -> Result<Value, Refusal>
     ensures { result ≡ word_of answer }
 {
-    if answer.refusal == 0 {
-        let narrow = answer.value;
-        let value = narrow.widened();
-        return Answer { refusal: 0, value };
-    }
-    answer
+    let narrow = answer?;
+    Ok(narrow.widened())
 }
 
-fn character(number: u16) -> Answer
+#[tactic(auto, unfolding(crate::specs::Asking::character_of, ground::specs::Choice::pick))]
+fn character(number: u16) -> Result<Value, Refusal>
     ensures { result ≡ character_of number }
 {
     if number < 256 {
-        let value = Value { number, width: 8 };
-        return Answer { refusal: 0, value };
+        return Ok(Value { number, width: 8 });
     }
-    refused(UNKNOWN)
+    Err(Refusal::Unknown)
 }
 
 // What one item of a statement stands for.
-pub(crate) fn datum(datum: Datum, nodes: &[u16], labels: &[u16], here: u16, item: u16) -> Answer
+pub(crate) fn datum(
+    datum: Datum,
+    nodes: &[u16],
+    labels: &[u16],
+    here: u16,
+    item: u16,
+) -> Result<Value, Refusal>
     ensures { result ≡ datum_of datum nodes.now labels.now here item }
 {
     match datum {
@@ -105,16 +104,14 @@ pub(crate) fn refusal_among(
     here: u16,
     first: u16,
     count: u16,
-) -> u8
+) -> Option<Refusal>
     ensures { result ≡ earliest (refusals_in (answers_from kind items.now nodes.now labels.now here first count)) }
 {
-    let mut why: u8 = 0;
-    let mut left = count;
-    while 0 < left {
-        left -= 1;
-        let number = item(items, first as usize + left as usize);
+    let mut why = None;
+    for k in (0..count).rev() {
+        let number = item(items, first as usize + k as usize);
         let answer = datum(kind, nodes, labels, here, number);
-        why = earlier(answer.refusal, why);
+        why = earlier(answer.err(), why);
     }
     why
 }

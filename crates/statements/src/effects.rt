@@ -3,41 +3,53 @@ ghost use Rattle.std.specs.Prelude.{◌≡◌};
 ghost use Rattle.ground.specs.Choice.{pick};
 ghost use Rattle.statements.specs.declared.Turn.TheVariants.{Keeps, Forgets};
 ghost use Rattle.statements.specs.Asking.{asked_of, answers_from};
-ghost use Rattle.statements.specs.Effects.{counts, own_label, entry_refusal, built_of, instruction_refusal, instruction_effect, number_refusal, reserved_effect, origin_effect, setdp_effect, data_refusal, effect_at, counted_of};
+ghost use Rattle.statements.specs.Effects.{counts, own_label, labelled, entry_refusal, built_of, made_of, instruction_effect, reserved_effect, origin_effect, setdp_effect, data_refusal, effect_at, counted_of};
 
 use crate::asking::{ask, refusal_among, want};
 use crate::listing::{operand_at, statement_at};
 use crate::order::earlier;
-use crate::{Asked, Datum, Effect, Entry, Statement, Turn};
-use expressions::Answer;
-use ground::refusals::{BAD_LABEL, BEYOND, UNKNOWN};
-use instruction::{Built, Record, assemble};
+use crate::{Datum, Effect, Entry, Statement, Turn};
+use ground::refusals::Refusal;
+use instruction::{Built, Record, Values, assemble};
 use rows::sizes::smallest_size;
+use values::Value;
 use values::pages::Page;
 
 // "Running to 65536 is allowed."
 const LAST_END: u64 = 65536;
 
-fn counts(refusal: u8, size: u32) -> Effect
+fn counts(refusal: Option<Refusal>, size: u32) -> Effect
     ensures { result ≡ counts refusal size }
 {
     Effect {
         refusal,
         size,
-        moves: false,
-        to: 0,
+        to: None,
         turn: Turn::Keeps,
     }
 }
 
-fn own_label(ill: bool) -> u8
+#[tactic(auto, unfolding(crate::specs::Effects::own_label, ground::specs::Choice::pick))]
+fn own_label(ill: bool) -> Option<Refusal>
     ensures { result ≡ own_label ill }
 {
-    if ill { BAD_LABEL } else { 0 }
+    if ill { Some(Refusal::BadLabel) } else { None }
+}
+
+// An answer, beside the statement's own label.
+#[tactic(auto, unfolding(crate::specs::Effects::labelled))]
+fn labelled<T: Copy + Drop>(answer: Result<T, Refusal>, ill: bool) -> Result<T, Refusal>
+    ensures { result ≡ labelled answer ill }
+{
+    match earlier(answer.err(), own_label(ill)) {
+        None => answer,
+        Some(why) => Err(why),
+    }
 }
 
 // 1 and 2, before any value is evaluated.
-fn entry_refusal(entry: Entry) -> u8
+#[tactic(auto, unfolding(crate::specs::Effects::entry_refusal))]
+fn entry_refusal(entry: Entry) -> Option<Refusal>
     ensures { result ≡ entry_refusal entry }
 {
     let operand = entry.operand;
@@ -45,11 +57,16 @@ fn entry_refusal(entry: Entry) -> u8
 }
 
 // The fresh build of an instruction. The page is the pass's.
-pub(crate) fn built(entry: Entry, asked: Asked, page: Page, here: u16) -> Built
+pub(crate) fn built(
+    entry: Entry,
+    asked: Result<Values, Refusal>,
+    page: Page,
+    here: u16,
+) -> Result<Built, Refusal>
     ensures { result ≡ built_of entry asked page here }
 {
+    let values = asked?;
     let operand = entry.operand;
-    let values = asked.values;
     let record = Record {
         operand,
         page,
@@ -58,41 +75,46 @@ pub(crate) fn built(entry: Entry, asked: Asked, page: Page, here: u16) -> Built
     assemble(record, here)
 }
 
+// "1, 2, 11, 10, 3, .. 7, 6, 5, 4, 8".
+#[tactic(auto, unfolding(crate::specs::Effects::made_of))]
+fn made(
+    entry: Entry,
+    asked: Result<Values, Refusal>,
+    ill: bool,
+    page: Page,
+    here: u16,
+) -> Result<Built, Refusal>
+    ensures { result ≡ made_of entry asked ill page here }
+{
+    if let Some(early) = entry_refusal(entry) {
+        return Err(early);
+    }
+    built(entry, labelled(asked, ill), page, here)
+}
+
 // What an accepted instruction does to the page.
+#[tactic(auto, unfolding(ground::specs::Choice::pick))]
 fn turn_by(dirties: bool) -> Turn
     ensures { result ≡ pick dirties Forgets Keeps }
 {
     if dirties { Turn::Forgets } else { Turn::Keeps }
 }
 
-fn instruction_effect(entry: Entry, refusal: u8, built: Built) -> Effect
-    ensures { result ≡ instruction_effect entry refusal built }
+fn instruction_effect(entry: Entry, made: Result<Built, Refusal>) -> Effect
+    ensures { result ≡ instruction_effect entry made }
 {
-    if refusal != 0 {
-        return counts(refusal, smallest_size(entry.operation) as u32);
+    match made {
+        Ok(built) => {
+            let turn = turn_by(built.dirties);
+            Effect {
+                refusal: None,
+                size: built.length as u32,
+                to: None,
+                turn,
+            }
+        }
+        Err(why) => counts(Some(why), smallest_size(entry.operation) as u32),
     }
-    let turn = turn_by(built.dirties);
-    Effect {
-        refusal: 0,
-        size: built.length as u32,
-        moves: false,
-        to: 0,
-        turn,
-    }
-}
-
-fn instruction_refusal(entry: Entry, asked: Asked, ill: bool, built: Built) -> u8
-    ensures { result ≡ instruction_refusal entry asked ill built }
-{
-    let early = entry_refusal(entry);
-    if early != 0 {
-        return early;
-    }
-    let value = earlier(asked.refusal, own_label(ill));
-    if value != 0 {
-        return value;
-    }
-    built.refusal
 }
 
 fn instruction(
@@ -104,68 +126,58 @@ fn instruction(
     page: Page,
     ill: bool,
 ) -> Effect
-    ensures { result ≡ instruction_effect entry (instruction_refusal entry (asked_of nodes.now labels.now node here) ill (built_of entry (asked_of nodes.now labels.now node here) page here)) (built_of entry (asked_of nodes.now labels.now node here) page here) }
+    ensures { result ≡ instruction_effect entry (made_of entry (asked_of nodes.now labels.now node here) ill page here) }
 {
     let asked = ask(nodes, labels, node, here);
-    let built = built(entry, asked, page, here);
-    let refusal = instruction_refusal(entry, asked, ill, built);
-    instruction_effect(entry, refusal, built)
+    instruction_effect(entry, made(entry, asked, ill, page, here))
 }
 
-fn number_refusal(answer: Answer, ill: bool) -> u8
-    ensures { result ≡ number_refusal answer ill }
+fn reserved(answer: Result<Value, Refusal>) -> Effect
+    ensures { result ≡ reserved_effect answer }
 {
-    earlier(answer.refusal, own_label(ill))
-}
-
-fn reserved(answer: Answer, refusal: u8) -> Effect
-    ensures { result ≡ reserved_effect answer refusal }
-{
-    if refusal != 0 {
-        return counts(refusal, 0);
+    match answer {
+        Ok(value) => counts(None, value.number as u32),
+        Err(why) => counts(Some(why), 0),
     }
-    let value = answer.value;
-    counts(0, value.number as u32)
 }
 
-fn origin(answer: Answer, refusal: u8) -> Effect
-    ensures { result ≡ origin_effect answer refusal }
+fn origin(answer: Result<Value, Refusal>) -> Effect
+    ensures { result ≡ origin_effect answer }
 {
-    if refusal != 0 {
-        return counts(refusal, 0);
-    }
-    let value = answer.value;
-    Effect {
-        refusal: 0,
-        size: 0,
-        moves: true,
-        to: value.number,
-        turn: Turn::Keeps,
+    match answer {
+        Ok(value) => Effect {
+            refusal: None,
+            size: 0,
+            to: Some(value.number),
+            turn: Turn::Keeps,
+        },
+        Err(why) => counts(Some(why), 0),
     }
 }
 
 // "1 for another SETDP number", before the 10 of its label: refused, it sets nothing.
+#[tactic(auto, unfolding(crate::specs::Effects::setdp_effect, ground::specs::Choice::pick))]
 fn setdp(number: u16, ill: bool) -> Effect
     ensures { result ≡ setdp_effect number ill }
 {
     if 255 < number {
-        return counts(UNKNOWN, 0);
+        return counts(Some(Refusal::Unknown), 0);
     }
     if ill {
-        return counts(BAD_LABEL, 0);
+        return counts(Some(Refusal::BadLabel), 0);
     }
     let high = number as u8;
     let turn = Turn::Sets(high);
     Effect {
-        refusal: 0,
+        refusal: None,
         size: 0,
-        moves: false,
-        to: 0,
+        to: None,
         turn,
     }
 }
 
 // FCB, FDB and FCC count their full length, refused or not.
+#[tactic(auto, unfolding(crate::specs::Effects::data_refusal))]
 fn data(
     kind: Datum,
     items: &[u16],
@@ -183,7 +195,9 @@ fn data(
     counts(earlier(own_label(ill), among), size)
 }
 
-// What statement i does at an address, under a page, with its own label ill (borne by an earlier statement, or above 511) or not.
+// What statement i does at an address, under a page, with its own label ill (borne by an earlier statement, or above 511) or not. The lent tables stay
+// parameters one by one, as the C interface lends them and as each definition names them.
+#[tactic(auto, unfolding(crate::specs::Effects::effect_at))]
 pub fn effect(
     list: &[u16],
     items: &[u16],
@@ -205,7 +219,7 @@ pub fn effect(
         }
         Statement::Rmb { node } => {
             let answer = want(nodes, labels, node, here);
-            reserved(answer, number_refusal(answer, ill))
+            reserved(labelled(answer, ill))
         }
         Statement::Fcb { first, count } => {
             let kind = Datum::Byte;
@@ -224,14 +238,15 @@ pub fn effect(
         }
         Statement::Org { node } => {
             let answer = want(nodes, labels, node, 0);
-            origin(answer, number_refusal(answer, ill))
+            origin(labelled(answer, ill))
         }
         Statement::Setdp { number } => setdp(number, ill),
-        Statement::Unknown => counts(UNKNOWN, 0),
+        Statement::Unknown => counts(Some(Refusal::Unknown), 0),
     }
 }
 
 // The effect at a running address: what would end beyond 65536 counts none, and is 18 where it was accepted.
+#[tactic(auto, unfolding(crate::specs::Effects::counted_of, ground::specs::Choice::pick))]
 pub fn counted(at: u32, effect: Effect) -> Effect
     ensures { result ≡ counted_of at effect }
 {
@@ -239,8 +254,6 @@ pub fn counted(at: u32, effect: Effect) -> Effect
     if end <= LAST_END {
         return effect;
     }
-    if effect.refusal == 0 {
-        return counts(BEYOND, 0);
-    }
-    counts(effect.refusal, 0)
+    let refusal = effect.refusal;
+    counts(refusal.or(Some(Refusal::Beyond)), 0)
 }

@@ -11,7 +11,8 @@ mod order;
 ghost use Rattle.std.specs.Prelude.{◌≡◌};
 ghost use Rattle.statements.specs.Turns.{turned};
 
-use instruction::{Operand, Values};
+use ground::refusals::Refusal;
+use instruction::Operand;
 use values::pages::Page;
 
 // What a row is: `first` and `count` are places among the lent items, a `node` may be none, SETDP's `number` is itself.
@@ -33,13 +34,6 @@ pub enum Statement {
 pub struct Entry {
     pub operation: u8,
     pub operand: Operand,
-}
-
-// The values of an instruction, if it has any; or a refusal.
-#[derive(Clone, Copy)]
-pub(crate) struct Asked {
-    pub refusal: u8,
-    pub values: Values,
 }
 
 // What an item stands for: a value of FCB, a value of FDB, or a character of FCC.
@@ -71,12 +65,11 @@ impl Turn {
     }
 }
 
-// What a statement does: its refusal or 0, what it counts, of an ORG that it moves and where to, and what it does to the page.
+// What a statement does: its refusal, what it counts even beside one, where an ORG moves to, and what it does to the page.
 #[derive(Clone, Copy)]
 pub struct Effect {
-    pub refusal: u8,
+    pub refusal: Option<Refusal>,
     pub size: u32,
-    pub moves: bool,
-    pub to: u16,
+    pub to: Option<u16>,
     pub turn: Turn,
 }

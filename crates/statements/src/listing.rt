@@ -4,16 +4,16 @@ ghost use Rattle.statements.specs.Listing.{rows_of, number_at, item_at, statemen
 
 use crate::{Entry, Statement};
 use entries::{byte_in, operand_of};
-use ground::tables::cell;
+use ground::tables::cell_or;
 
-// No label, no operand, a hole among values.
+// No label, no operand, a hole among values: a number and no Option, as the rows have it (docs/ROWS.md).
 pub const NONE: u16 = 65535;
 
 const WIDTH: usize = 20;
 
 const MOST_ITEMS: u16 = 256;
 
-// The places of a row.
+// The places of a row: numbers, since all of it is numbers (docs/ROWS.md).
 const KIND: u8 = 0;
 
 const LABEL: u8 = 1;
@@ -35,11 +35,12 @@ pub fn rows_of(list: &[u16]) -> usize
 }
 
 // A number of a row. A row that is not there has 65535 in every place.
+#[tactic(auto, unfolding(crate::specs::Listing::number_at, ground::specs::Choice::pick))]
 fn number(list: &[u16], i: usize, place: u8) -> u16
     ensures { result ≡ number_at list.now i place }
 {
     if i < rows_of(list) {
-        return cell(list, i * WIDTH + place as usize);
+        return cell_or(list, i * WIDTH + place as usize, 0);
     }
     NONE
 }
@@ -48,13 +49,11 @@ fn number(list: &[u16], i: usize, place: u8) -> u16
 pub(crate) fn item(items: &[u16], at: usize) -> u16
     ensures { result ≡ item_at items.now at }
 {
-    if at < items.len() {
-        return items[at];
-    }
-    NONE
+    cell_or(items, at, NONE)
 }
 
-// "An enum of statement kinds, arrays beside it": the kinds by number.
+// "An enum of statement kinds, arrays beside it": the kinds by number, since a row may hold anything (docs/ROWS.md).
+#[tactic(auto, unfolding(crate::specs::Listing::statement_of, ground::specs::Choice::pick))]
 fn statement(kind: u16, node: u16, first: u16, count: u16) -> Statement
     ensures { result ≡ statement_of kind node first count }
 {
@@ -72,6 +71,7 @@ fn statement(kind: u16, node: u16, first: u16, count: u16) -> Statement
 }
 
 // What row i of a list is.
+#[tactic(auto, unfolding(crate::specs::Listing::statement_at))]
 pub fn statement_at(list: &[u16], i: usize) -> Statement
     ensures { result ≡ statement_at list.now i }
 {
@@ -89,6 +89,7 @@ pub fn label_at(list: &[u16], i: usize) -> u16
     number(list, i, LABEL)
 }
 
+#[tactic(auto, unfolding(crate::specs::Listing::entry_in))]
 fn entry(row: &[u16]) -> Entry
     ensures { result ≡ entry_in row.now }
 {
@@ -126,6 +127,7 @@ fn items_of(statement: Statement) -> u16
 }
 
 // Row i lists more values or characters than 01 allows.
+#[tactic(auto, unfolding(crate::specs::Listing::overfull_at))]
 pub fn overfull(list: &[u16], i: usize) -> bool
     ensures { result ≡ overfull_at list.now i }
 {
@@ -133,7 +135,7 @@ pub fn overfull(list: &[u16], i: usize) -> bool
     MOST_ITEMS < items_of(statement)
 }
 
-// The kind of the object of a statement: 0 without data, 1 with data, 65535 where it has no object.
+// The kind of the object of a statement: 0 without data, 1 with data, 65535 where it has no object. A number, as the writer's rows have it (docs/ROWS.md).
 pub fn object_kind(statement: Statement) -> u16
     ensures { result ≡ object_of statement }
 {

@@ -1,7 +1,7 @@
 // The values of a statement's object, stored as rows of number and width.
 ghost use Rattle.std.specs.Prelude.{◌≡◌, [], ◌∷◌, ◌+◌, ◌≤◌, min, length, take};
 ghost use Rattle.ground.specs.Stores.{put};
-ghost use Rattle.instruction.specs.Building.{bytes_in};
+ghost use Rattle.instruction.specs.Building.{bytes_told};
 ghost use Rattle.statements.specs.Asking.{asked_of, answers_from, rows_in};
 ghost use Rattle.statements.specs.Effects.{built_of};
 ghost use Rattle.records.specs.Objects.{byte_rows};
@@ -11,7 +11,8 @@ use crate::asking::{ask, datum};
 use crate::effects::built;
 use crate::listing::{item, operand_at, statement_at};
 use crate::{Datum, Entry, Statement};
-use ground::buffers::store_cell;
+use ground::buffers::store;
+use values::Value;
 use values::pages::Page;
 
 // A row of two numbers. Its place is at most the values of one statement past the end, so that no sum overflows.
@@ -19,19 +20,17 @@ fn store_row(values: &mut [u16], at: usize, number: u16, width: u16)
     requires { at ≤ length values.old + 131072 }
     ensures { values.new ≡ put values.old at (number ∷ width ∷ []) }
 {
-    store_cell(values, at, number);
-    store_cell(values, at + 1, width);
+    store(values, at, number);
+    store(values, at + 1, width);
 }
 
-// An instruction's bytes, as values of 8 bits.
+// An instruction's bytes, as values of 8 bits: five bytes and a length, as document 01 asks.
 fn store_bytes(bytes: [u8; 5], count: u8, values: &mut [u16], place: usize)
     requires { (count ≤ 5) × (place ≤ length values.old) }
     ensures { values.new ≡ put values.old place (byte_rows (take count bytes)) }
 {
-    let mut k: usize = 0;
-    while k < count as usize {
+    for k in 0..count as usize {
         store_row(values, place + 2 * k, bytes[k] as u16, 8);
-        k += 1;
     }
 }
 
@@ -50,18 +49,20 @@ fn store_data(
     requires { place ≤ length values.old }
     ensures { values.new ≡ put values.old place (rows_in (answers_from kind items.now nodes.now labels.now here first count)) }
 {
-    let mut k: u16 = 0;
-    while k < count {
+    let nothing = Value {
+        number: 0,
+        width: 0,
+    };
+    for k in 0..count {
         let number = item(items, first as usize + k as usize);
         let answer = datum(kind, nodes, labels, here, number);
-        let value = answer.value;
+        let value = answer.unwrap_or(nothing);
         store_row(
             values,
             place + 2 * (k as usize),
             value.number,
             value.width as u16,
         );
-        k += 1;
     }
 }
 
@@ -77,15 +78,19 @@ fn store_instruction(
     place: usize,
 ) -> u16
     requires { place ≤ length values.old }
-    ensures value { result ≡ count_in (byte_rows (bytes_in (built_of entry (asked_of nodes.now labels.now node here) page here))) }
-    ensures values_after { values.new ≡ put values.old place (byte_rows (bytes_in (built_of entry (asked_of nodes.now labels.now node here) page here))) }
+    ensures value { result ≡ count_in (byte_rows (bytes_told (built_of entry (asked_of nodes.now labels.now node here) page here))) }
+    ensures values_after { values.new ≡ put values.old place (byte_rows (bytes_told (built_of entry (asked_of nodes.now labels.now node here) page here))) }
 {
     let asked = ask(nodes, labels, node, here);
-    let built = built(entry, asked, page, here);
-    let bytes = built.bytes;
-    let count = built.length;
-    store_bytes(bytes, count, values, place);
-    count as u16
+    match built(entry, asked, page, here) {
+        Ok(built) => {
+            let bytes = built.bytes;
+            let count = built.length;
+            store_bytes(bytes, count, values, place);
+            count as u16
+        }
+        Err(_) => 0,
+    }
 }
 
 // Stores the rows of the values of statement i from a place on, and answers how many values they are; what would stand past the end of the table is
@@ -138,5 +143,5 @@ pub fn store_values(
 fn within(place: usize, end: usize) -> usize
     ensures { result ≡ min place end }
 {
-    if place < end { place } else { end }
+    place.min(end)
 }

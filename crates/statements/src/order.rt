@@ -2,31 +2,34 @@
 ghost use Rattle.std.specs.Prelude.{◌≡◌};
 ghost use Rattle.statements.specs.Order.{place_of, earlier};
 
-use ground::refusals::*;
+use ground::refusals::Refusal;
 
-// The place of a refusal in 01's order. 0, no refusal, comes last.
-fn place(refusal: u8) -> u8
+// The place of a refusal in 01's order. No refusal comes last.
+#[tactic(auto, unfolding(crate::specs::Order::place_of, ground::specs::Choice::pick))]
+fn place(refusal: Option<Refusal>) -> u8
     ensures { result ≡ place_of refusal }
 {
     match refusal {
-        UNKNOWN => 0,
-        NO_SUCH_MODE => 1,
-        TOO_DEEP => 2,
-        BAD_LABEL => 3,
-        VALUE_MISSING => 4,
-        SEGMENT_REPEATED => 5,
-        OVER_LIMIT => 6,
-        DIRECT_NOT_ALLOWED => 7,
-        BAD_WIDTH => 8,
-        SINGLE_STEP_INDIRECT => 9,
-        BAD_REGISTER => 10,
-        BRANCH_TOO_FAR => 11,
-        NO_ROOM => 12,
-        _ => 13,
+        Some(Refusal::Unknown) => 0,
+        Some(Refusal::NoSuchMode) => 1,
+        Some(Refusal::TooDeep) => 2,
+        Some(Refusal::BadLabel) => 3,
+        Some(Refusal::ValueMissing) => 4,
+        Some(Refusal::SegmentRepeated) => 5,
+        Some(Refusal::OverLimit) => 6,
+        Some(Refusal::DirectNotAllowed) => 7,
+        Some(Refusal::BadWidth) => 8,
+        Some(Refusal::SingleStepIndirect) => 9,
+        Some(Refusal::BadRegister) => 10,
+        Some(Refusal::BranchTooFar) => 11,
+        Some(Refusal::NoRoom) => 12,
+        Some(_) => 13,
+        None => 14,
     }
 }
 
-pub(crate) fn earlier(a: u8, b: u8) -> u8
+#[tactic(auto, unfolding(crate::specs::Order::earlier, ground::specs::Choice::pick))]
+pub(crate) fn earlier(a: Option<Refusal>, b: Option<Refusal>) -> Option<Refusal>
     ensures { result ≡ earlier a b }
 {
     let first = place(a) <= place(b);

@@ -5,6 +5,7 @@ use mathlib.Core.Bool.{Bool, true, false, not, ◌&&◌, ◌||◌, false≢true}
 use Prim.Native.Nat.{ℕ, ◌+◌, ◌/◌}
 use lib.Dec.{eqb}
 use borrow.Author.Tests.{eqb-true}
+use Rattle.std.specs.Prelude.{Ok}
 use Rattle.ground.specs.Choice.{pick}
 use Rattle.ground.proofs.Choices.{by_test, by_pick}
 use Rattle.values.specs.declared.pages.Page.{Page}
@@ -20,7 +21,7 @@ use Rattle.instruction.specs.Names.{mode_offset, mode_pc_relative, mode_extended
 use Rattle.instruction.specs.Forms.{becomes_direct, extended_form, form_of, needs_value}
 use Rattle.instruction.specs.Choosing.{anew_as, anew_of, address_of, choose_of}
 use Rattle.instruction.specs.Bytes.{operand_bytes, laid_of}
-use Rattle.instruction.specs.Building.{instruction_of, accepted_of, fresh_of}
+use Rattle.instruction.specs.Building.{instruction_of, accepted_of}
 use Rattle.rows.proofs.Bytes.{number_size_small}
 use Rattle.instruction.proofs.Rows.{direct_extended, direct_size, extended_size}
 use Rattle.instruction.proofs.Sizes.{number_length}
@@ -28,7 +29,7 @@ use Rattle.why.specs.declared.Reason.{Reason}
 use Rattle.why.specs.declared.Reason.TheVariants.{Plain, Address, Branch, PcRelative, Offset, Refused}
 use Rattle.why.specs.Reasons.{elsewhere, address_reason, code_bytes, branch_reason, relative_reason, offset_reason, extended_reason, reason_for}
 use Rattle.why.specs.Exactly.{IsAddress, some_named, AddressTold, NamesExactly, NamesOnly}
-use Rattle.why.proofs.Fresh.{makes, chosen_of, accepts, laid_length}
+use Rattle.why.proofs.Fresh.{makes, chosen_of, Accepts, accepted, laid_length}
 
 -- ---- the facts
 -- an address is on the page exactly if the page is known and not elsewhere
@@ -67,11 +68,11 @@ module _ (r : Record) (address : ℕ) (a : IsAddress r.operand) where
   unfolding form_of extended_form pick
   address_form = rw (a.mode, a.straight, a.row)
 
-  address_chosen : chosen_of r address ≡ anew_as (makes r) r.values form
+  address_chosen : chosen_of r address ≡ Ok (anew_as (makes r) r.values form)
   unfolding instruction_of choose_of address_of anew_of pick
   address_chosen = go (becomes_direct r.operand r.values r.page) refl
     where
-      go : (t : Bool) → becomes_direct r.operand r.values r.page ≡ t → chosen_of r address ≡ anew_as (makes r) r.values form
+      go : (t : Bool) → becomes_direct r.operand r.values r.page ≡ t → chosen_of r address ≡ Ok (anew_as (makes r) r.values form)
       go true q = rw (address_form, q, a.mode)
       go false q = rw (address_form, q, a.mode)
 
@@ -93,26 +94,26 @@ module _ (r : Record) (address : ℕ) (a : IsAddress r.operand) where
       ∙ ap (λ (n : ℕ). code_bytes r.operand.operation f + n)
       (number_length (number_size_of r.operand.operation f) r.values.unsigned.number (number_size_small r.operand.operation f))
 
-  told : (fresh_of r address).refusal ≡ 0 → AddressTold r address
+  address_told : (b : Built) → Accepts r address b → AddressTold r address b
   unfolding reason_for extended_reason address_reason needs_value instruction_of accepted_of anew_as pick
-  told z =
-      let k = accepts r address z in
+  address_told b k =
+      let same : k.choice ≡ anew_as (makes r) r.values form = cc (k.chosen, address_chosen) in
       let given : r.values.given ≡ true = k.early.present (rw a.mode) in
       let e : form ≡ pick (some_named r) extended direct = ap (λ (t : Bool). pick t direct extended) (none_named r given) ∙ turned (some_named r) in
-      let f : (chosen_of r address).form ≡ pick (some_named r) extended direct = ap (λ (c : Chosen). c.form) address_chosen ∙ e in
+      let f : k.choice.form ≡ pick (some_named r) extended direct = ap (λ (c : Chosen). c.form) same ∙ e in
       record {
         reason = rw (a.mode, a.straight, a.row);
         form = ap (λ (b : Built). b.instruction.form) k.built ∙ f;
         length =
             ap (λ (b : Built). b.length) k.built
-            ∙ ap (λ (c : Chosen). (laid_of c address).length) (address_chosen ∙ ap (anew_as (makes r) r.values) e)
+            ∙ ap (λ (c : Chosen). (laid_of c address).length) (same ∙ ap (anew_as (makes r) r.values) e)
             ∙ laid_number (pick (some_named r) extended direct) (has_both (some_named r))
             ∙ ap (λ (n : ℕ). code_bytes r.operand.operation (pick (some_named r) extended direct) + n) (number_sized (some_named r));
         single = one_page_fact r.page r.values.unsigned.number;
       }
 
 pub names_exactly : NamesExactly
-names_exactly r address a = told r address a
+names_exactly r address a = accepted r address (AddressTold r address) (address_told r address a)
 
 -- ---- and of nothing else
 -- a choice that says Address says it in the one case that does

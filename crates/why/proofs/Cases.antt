@@ -4,7 +4,6 @@ use mathlib.Core.Path.{◌≡◌, refl}
 use mathlib.Core.Bool.{true, false}
 use mathlib.Core.List.{List, [], ◌∷◌, map}
 use Prim.Native.Nat.{ℕ}
-use lib.ListN.{take}
 use Rattle.ground.specs.Choice.{pick}
 use Rattle.values.specs.Pages.{is_page, page_numbered}
 use Rattle.values.specs.Widths.{bits_of, extended, valid_of, sign_extended_of}
@@ -18,7 +17,7 @@ use Rattle.instruction.specs.Records.{stepped, recognised, narrower, agreeing, l
 use Rattle.instruction.specs.Forms.{becomes_direct, extended_form, form_of, strays, lacks, needs_value}
 use Rattle.instruction.specs.Choosing.{inherent_of, immediate_of, forced_wide, leaves_direct, stays_direct, directly_of, anew_as, anew_of, address_of, long_branch, branch_of, offset_value, offset_index, target_index, step_index, address_index, index_of, choose_of}
 use Rattle.instruction.specs.Bytes.{number_bytes, operand_bytes, code_size, behind_code, laid_at, laid_of}
-use Rattle.instruction.specs.Building.{instruction_of, made_as, make_of, early_of, dirties_of, accepted_of, finished_of, build_of, handed, fresh_from, fresh_of}
+use Rattle.instruction.specs.Building.{instruction_of, made_as, make_of, early_of, dirties_of, accepted_of, tried_of, fresh_of, told, bytes_told}
 use Rattle.entries.specs.Entries.{byte_in, is_flag, flag_in, is_page_in, page_in, flagged_in, registers_in, fields_in, told_in, value_in, values_in, all_flagged, entry_of}
 use Rattle.why.specs.declared.Reason.{Reason}
 use Rattle.why.specs.declared.Reason.TheVariants.{Plain, Address, Branch, PcRelative, Offset, Refused}
@@ -26,7 +25,7 @@ use Rattle.why.specs.declared.Field.TheVariants.{Operation, Mode, Indirect, Forc
 use Rattle.why.specs.declared.Explained.{Explained}
 use Rattle.why.specs.Fields.{if_wrong, first_wrong, page_or_values, field_of}
 use Rattle.why.specs.Reasons.{address_reason, code_bytes, branch_distance, relative_distance, branch_reason, relative_reason, offset_number, offset_bits, offset_reason, extended_reason, reason_for}
-use Rattle.why.specs.Explaining.{reason_as, explained_of}
+use Rattle.why.specs.Explaining.{explained_of}
 
 -- ---- what is told: the refusal, the bytes, the reason
 pub record Telling : Type 0 where
@@ -41,7 +40,7 @@ abbrev refuses : ℕ → Reason → Telling
 refuses n reason = record { refusal = n; bytes = []; reason = reason }
 
 abbrev of_explained : Explained → Telling
-of_explained e = record { refusal = e.built.refusal; bytes = take e.built.length e.built.bytes; reason = e.reason }
+of_explained e = record { refusal = told e.built; bytes = bytes_told e.built; reason = e.reason }
 
 abbrev ask : List ℕ → Telling
 ask row = of_explained (explained_of row 0x0100)
@@ -188,5 +187,5 @@ answered =
     ∷ []
 
 pub cases : map ask asked ≡ answered
-unfolding pick is_page page_numbered bits_of extended valid_of sign_extended_of page0 page10 page11 table_of merged_of placed has_form_of known_of code_of is_wide is_long number_at number_size_of long_from long_of any_unknown strange_list marked sized_of constant_of offset_of counter_of relative_of stepped recognised narrower agreeing lawful sound becomes_direct extended_form form_of strays lacks needs_value inherent_of immediate_of forced_wide leaves_direct stays_direct directly_of anew_as anew_of address_of long_branch branch_of offset_value offset_index target_index step_index address_index index_of choose_of number_bytes operand_bytes code_size behind_code laid_at laid_of instruction_of made_as make_of early_of dirties_of accepted_of finished_of build_of handed fresh_from fresh_of byte_in is_flag flag_in is_page_in page_in flagged_in registers_in fields_in told_in value_in values_in all_flagged entry_of if_wrong first_wrong page_or_values field_of address_reason code_bytes branch_distance relative_distance branch_reason relative_reason offset_number offset_bits offset_reason extended_reason reason_for reason_as explained_of
+unfolding pick is_page page_numbered bits_of extended valid_of sign_extended_of page0 page10 page11 table_of merged_of placed has_form_of known_of code_of is_wide is_long number_at number_size_of long_from long_of any_unknown strange_list marked sized_of constant_of offset_of counter_of relative_of stepped recognised narrower agreeing lawful sound becomes_direct extended_form form_of strays lacks needs_value inherent_of immediate_of forced_wide leaves_direct stays_direct directly_of anew_as anew_of address_of long_branch branch_of offset_value offset_index target_index step_index address_index index_of choose_of number_bytes operand_bytes code_size behind_code laid_at laid_of instruction_of made_as make_of early_of dirties_of accepted_of tried_of fresh_of byte_in is_flag flag_in is_page_in page_in flagged_in registers_in fields_in told_in value_in values_in all_flagged entry_of if_wrong first_wrong page_or_values field_of address_reason code_bytes branch_distance relative_distance branch_reason relative_reason offset_number offset_bits offset_reason extended_reason reason_for explained_of
 cases = refl

@@ -1,13 +1,16 @@
 -- What each refusal of a fresh build tells of its record, once 1 is passed.
 -- Assumes nothing.
-use mathlib.Core.Path.{◌≡◌, refl, sym, ◌∙◌}
+use mathlib.Core.Path.{◌≡◌, refl, sym, ap, ◌∙◌, subst}
 use mathlib.Core.Bool.{Bool, true, false, ◌&&◌, ◌||◌, not, false≢true}
 use Prim.Native.Nat.{ℕ}
 use native.Mathlib.Omega.{arith}
 use lib.Dec.{eqb, ltb}
-use borrow.Author.Tests.{eqb-true, eqb-false, ne_eqb, not-true}
+use borrow.Author.Tests.{eqb-true, not-true}
+use Rattle.std.specs.Prelude.{Result, Ok, Err, IsOkUnless, is_err, ⊤}
 use Rattle.ground.specs.Choice.{pick}
-use Rattle.ground.specs.Refusals.{unknown, no_such_mode, value_missing, bad_register, single_step_indirect, bad_width, direct_not_allowed, branch_too_far}
+use Rattle.ground.specs.declared.refusals.Refusal.{Refusal}
+use Rattle.ground.specs.declared.refusals.Refusal.TheVariants.{BadRegister}
+use Rattle.ground.specs.Refusals.{unknown, no_such_mode, value_missing, bad_register, single_step_indirect, bad_width, direct_not_allowed, branch_too_far, number_of}
 use Rattle.ground.specs.Words.{plus, minus}
 use Rattle.ground.proofs.Choices.{by_test, by_pick}
 use Rattle.ground.proofs.Tests.{both_first, both_second, neither_left, neither_right}
@@ -21,17 +24,18 @@ use Rattle.postbytes.specs.Writing.{near_of}
 use Rattle.instruction.specs.declared.Operand.{Operand}
 use Rattle.instruction.specs.declared.Values.{Values}
 use Rattle.instruction.specs.declared.Record.{Record}
+use Rattle.instruction.specs.declared.Instruction.{Instruction}
 use Rattle.instruction.specs.declared.Chosen.{Chosen}
-use Rattle.instruction.specs.declared.Built.{Built}
 use Rattle.instruction.specs.Names.{mode_register, mode_offset, mode_pc_relative, mode_inc_dec, mode_extended, mode_direct, mode_immediate, mode_inherent}
 use Rattle.instruction.specs.Records.{recognised, lawful}
 use Rattle.instruction.specs.Forms.{becomes_direct, extended_form, register_form, form_of, lacks, needs_value}
-use Rattle.instruction.specs.Choosing.{inherent_of, immediate_of, forced_wide, address_of, long_branch, branch_of, register_at, accumulator_index, offset_index, target_index, step_index, address_index, index_of, listed_of, registers_of, choose_of}
-use Rattle.instruction.specs.Building.{instruction_of, early_of, accepted_of, finished_of, build_of, handed, fresh_of}
+use Rattle.instruction.specs.Choosing.{inherent_of, immediate_of, forced_wide, address_of, long_branch, branch_of, register_at, accumulator_index, offset_index, target_index, step_index, address_index, index_of, listed_of, registers_of, choose_of, list_settled}
+use Rattle.instruction.specs.Building.{instruction_of, early_of, finished_of, fresh_of, after, tried_of, told}
 use Rattle.instruction.proofs.Tests.{or_left, or_right}
 use Rattle.instruction.proofs.Ready.{early_made, fresh_built}
 use Rattle.instruction.proofs.Fits.{Early, early_leaves}
 use Rattle.instruction.proofs.Choice.{not_strange, last_form, listed_four, address_choice}
+use Rattle.instruction.proofs.Results.{of_ok}
 
 -- the form that a record asks for
 abbrev pub asked_of : Record → ℕ
@@ -57,7 +61,7 @@ is_counter o = eqb o.count 1 && eqb (register_at o 0) PC
 unfoldable pub bad_registers : Operand → Bool
 bad_registers o =
     pick (eqb o.mode mode_register)
-    (pick (has_form_of o.operation register) (not (eqb (listed_of o).refusal 0)) (not_added o))
+    (pick (has_form_of o.operation register) (is_err (listed_of o)) (not_added o))
     (pick (eqb o.mode mode_pc_relative) (not (is_counter o)) (not_pointer o))
 
 -- 6: a value on an inherent form, one too large for its row, or a wide one under page 0
@@ -135,9 +139,9 @@ no_list o v page m e = go (has_form_of o.operation register) refl (rw m at e)
 
 -- ---- registers
 module _ (o : Operand) where
-  bad_list : o.mode ≡ mode_register → has_form_of o.operation register ≡ true → ((listed_of o).refusal ≡ 0 → ⊥) → bad_registers o ≡ true
+  bad_list : o.mode ≡ mode_register → has_form_of o.operation register ≡ true → is_err (listed_of o) ≡ true → bad_registers o ≡ true
   unfolding bad_registers pick
-  bad_list m h bad = rw (ne_eqb (listed_of o).refusal 0 bad, m, h)
+  bad_list m h bad = rw (bad, m, h)
 
   bad_added : o.mode ≡ mode_register → has_form_of o.operation register ≡ false → not_added o ≡ true → bad_registers o ≡ true
   unfolding bad_registers pick
@@ -153,10 +157,10 @@ module _ (o : Operand) where
 
 -- ---- what choosing refuses
 module _ (r : Record) where
-  index_cause : asked_of r ≡ indexed → Cause r (index_of (instruction_of r.operand (asked_of r)) r.values).refusal
+  index_cause : asked_of r ≡ indexed → Cause r (told (index_of (instruction_of r.operand (asked_of r)) r.values))
   unfolding instruction_of index_of accumulator_index offset_index target_index step_index address_index
   index_cause f =
-      let P : Chosen → Type 0 = λ c. Cause r c.refusal in
+      let P : Result Chosen Refusal → Type 0 = λ c. Cause r (told c) in
       let o = r.operand in
       let more = not (eqb o.count 1) in
       let strange = not_indexing (register_at o 0) in
@@ -178,24 +182,24 @@ module _ (r : Record) where
       (λ _. by_test P (more || strange) (λ t. misnamed refl (bad_pointer o m k t)) (λ _. accepted refl)))
       (accepted refl))))
 
-  branch_cause : (address : ℕ) → Cause r (branch_of (instruction_of r.operand (asked_of r)) r.values address).refusal
+  branch_cause : (address : ℕ) → Cause r (told (branch_of (instruction_of r.operand (asked_of r)) r.values address))
   unfolding instruction_of branch_of long_branch
   branch_cause address =
-      let P : Chosen → Type 0 = λ c. Cause r c.refusal in
+      let P : Result Chosen Refusal → Type 0 = λ c. Cause r (told c) in
       by_pick P (eqb (number_size_of r.operand.operation relative) 2) (accepted refl)
       (by_pick P false (accepted refl)
       (by_pick P (near_of (minus r.values.unsigned.number (plus address 2))) (accepted refl)
       (by_test P r.operand.widening (λ _. accepted refl) (λ w. far refl w))))
 
 module _ (r : Record) (left : Early (instruction_of r.operand (asked_of r)) r.values) where
-  address_cause : Cause r (address_of (instruction_of r.operand (asked_of r)) r.values r.page).refusal
+  address_cause : Cause r (told (address_of (instruction_of r.operand (asked_of r)) r.values r.page))
   unfolding instruction_of forced_wide needs_value
   address_cause =
       let o = r.operand in
       let v = r.values in
       let wide = eqb v.unsigned.width 16 in
       let zero = is_zero r.page in
-      address_choice (instruction_of o (asked_of r)) v r.page (λ (c : Chosen). Cause r c.refusal) (λ _ _ _. accepted refl)
+      address_choice (instruction_of o (asked_of r)) v r.page (λ (c : Result Chosen Refusal). Cause r (told c)) (λ _ _ _. accepted refl)
       (λ m _ _ w.
       let both = both_second o.forced (wide && zero) w in
       misfit refl (too_wide (eqb-true o.mode mode_direct m) (both_first wide zero both) (both_second wide zero both)))
@@ -203,14 +207,20 @@ module _ (r : Record) (left : Early (instruction_of r.operand (asked_of r)) r.va
       let e = eqb-true o.mode mode_direct m in
       beyond refl (record { mode = e; given = left.present (rw e); unreached = b }))
 
-  choose_cause : (address : ℕ) → Cause r (choose_of (instruction_of r.operand (asked_of r)) r.values r.page address).refusal
+  -- a list is refused 4
+  list_cause :
+      (o : Operand) → o.mode ≡ mode_register → has_form_of o.operation register ≡ true → o ≡ r.operand →
+      (l : Result ℕ Refusal) → listed_of o ≡ l → IsOkUnless l BadRegister → Cause r (told (list_settled (instruction_of r.operand (asked_of r)) l))
+  list_cause o m h e (Ok byte) q four = accepted refl
+  list_cause o m h e (Err n) q four = misnamed (ap number_of four) (subst (λ (x : Operand). bad_registers x ≡ true) e (bad_list o m h (rw q)))
+
+  choose_cause : (address : ℕ) → Cause r (told (choose_of (instruction_of r.operand (asked_of r)) r.values r.page address))
   unfolding instruction_of choose_of inherent_of immediate_of registers_of
   choose_cause address =
-      let P : Chosen → Type 0 = λ c. Cause r c.refusal in
+      let P : Result Chosen Refusal → Type 0 = λ c. Cause r (told c) in
       let o = r.operand in
       let v = r.values in
       let f = asked_of r in
-      let l = (listed_of o).refusal in
       let large = ltb 255 v.unsigned.number in
       let modes = mode_of o v r.page in
       by_test P (eqb f inherent)
@@ -222,44 +232,48 @@ module _ (r : Record) (left : Early (instruction_of r.operand (asked_of r)) r.va
       (λ b. by_test P (eqb f direct || eqb f extended) (λ _. address_cause)
       (λ c. by_test P (eqb f indexed) (λ q. index_cause r (eqb-true f indexed q))
       (λ d. by_test P (eqb f relative) (λ _. branch_cause r address)
-      (λ e. by_test P (eqb l 0) (λ _. accepted refl)
-      (λ z.
+      (λ e.
       let last = last_form f left.small a b (neither_left (eqb f direct) (eqb f extended) c) (neither_right (eqb f direct) (eqb f extended) c) d e in
       let list = modes.taking_list (eqb-true f register last) in
-      let bad = eqb-false l 0 z in
-      misnamed (listed_four o (not_strange o left.known) bad) (bad_list o list.0 list.1 bad)))))))
+      list_cause o list.0 list.1 refl (listed_of o) refl (listed_four o (not_strange o left.known)))))))
 
 -- ---- a fresh build
 module _ (r : Record) (address : ℕ) (whole : (recognised r.operand && lawful r.values) ≡ true) where
-  early_cause : Cause r (early_of (instruction_of r.operand (asked_of r)) r.values)
+  early_cause : Cause r (told (early_of (instruction_of r.operand (asked_of r)) r.values))
   early_cause =
       let o = r.operand in
       let v = r.values in
       let need = needs_value o.mode (asked_of r) in
+      let P : Result ⊤ Refusal → Type 0 = λ n. Cause r (told n) in
       rw (early_made o v r.page)
-      (by_test (Cause r) (recognised o && lawful v)
-      (λ _. by_test (Cause r) (lacks o (asked_of r)) (λ l. lacking refl l)
-      (λ _. by_test (Cause r) (need && not v.given)
+      (by_test P (recognised o && lawful v)
+      (λ _. by_test P (lacks o (asked_of r)) (λ l. lacking refl l)
+      (λ _. by_test P (need && not v.given)
       (λ t. missing refl (record { needed = both_first need (not v.given) t; absent = not-true v.given (both_second need (not v.given) t) }))
       (λ _. accepted refl)))
       (λ q. absurd (false≢true (sym q ∙ whole))))
 
-  build_cause : Cause r (build_of (instruction_of r.operand (asked_of r)) r.values r.page address).refusal
-  unfolding build_of finished_of accepted_of
-  build_cause =
-      let P : Built → Type 0 = λ b. Cause r b.refusal in
-      let i = instruction_of r.operand (asked_of r) in
-      let v = r.values in
-      by_test P (eqb (early_of i v) 0)
-      (λ z. by_pick P (eqb (choose_of i v r.page address).refusal 0) (accepted refl)
-      (choose_cause r (early_leaves i v (eqb-true (early_of i v) 0 z)) address))
-      (λ _. early_cause)
+  build_cause : Cause r (told (tried_of (instruction_of r.operand (asked_of r)) r.values r.page address))
+  unfolding tried_of
+  build_cause = go (early_of i v) refl early_cause
+    where
+      i : Instruction
+      i = instruction_of r.operand (asked_of r)
 
-  pub cause : Cause r (fresh_of r address).refusal
-  unfolding handed
-  cause =
-      let b = build_of (instruction_of r.operand (asked_of r)) r.values r.page address in
-      rw (fresh_built r address) (by_pick (λ (h : Built). Cause r h.refusal) (eqb b.refusal 0) build_cause build_cause)
+      v : Values
+      v = r.values
+
+      finished : (c : Result Chosen Refusal) → Cause r (told c) → Cause r (told (finished_of i c address))
+      finished (Ok c) k = accepted refl
+      finished (Err n) k = k
+
+      go : (n : Result ⊤ Refusal) → early_of i v ≡ n → Cause r (told n) → Cause r (told (after n (finished_of i (choose_of i v r.page address) address)))
+      go (Ok passed) e k =
+          finished (choose_of i v r.page address) (choose_cause r (of_ok (λ (_ : ⊤). Early i v) (early_leaves i v) e) address)
+      go (Err n) e k = k
+
+  pub cause : Cause r (told (fresh_of r address))
+  cause = rw (fresh_built r address) build_cause
 
 -- which is not refused 1
 pub not_one : {r : Record} {n : ℕ} → Cause r n → n ≡ unknown → ⊥

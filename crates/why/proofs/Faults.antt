@@ -11,6 +11,7 @@ use Rattle.values.specs.Pages.{is_unknown}
 use Rattle.instruction.specs.declared.Operand.{Operand}
 use Rattle.instruction.specs.declared.Record.{Record}
 use Rattle.instruction.specs.Forms.{lacks}
+use Rattle.instruction.specs.Building.{told}
 use Rattle.entries.specs.Entries.{flag_in, page_in, fields_in, values_in, entry_of}
 use Rattle.why.specs.declared.Field.{Field}
 use Rattle.why.specs.declared.Field.TheVariants.{Operation, Mode, Indirect, Forced, Step, Widening, Registers, Page, Values}
@@ -28,9 +29,9 @@ pub entry_plain : (row : List ℕ) → is_whole row ≡ true → entry_of row �
 unfolding entry_of
 entry_plain row w = ap {B = Record} (λ (o : Operand). record { operand = o; page = page_in row 15; values = values_in row }) (whole_told row w)
 
-pub row_cause : (row : List ℕ) (address : ℕ) → is_whole row ≡ true → Cause (plain_of row) (answer_of row address).refusal
+pub row_cause : (row : List ℕ) (address : ℕ) → is_whole row ≡ true → Cause (plain_of row) (told (answer_of row address))
 unfolding entry_of
-row_cause row address w = subst (λ (r : Record). Cause r (answer_of row address).refusal) (entry_plain row w) (cause (entry_of row) address w)
+row_cause row address w = subst (λ (r : Record). Cause r (told (answer_of row address))) (entry_plain row w) (cause (entry_of row) address w)
 
 -- what the refusals but 1 blame each field for: 2 the mode, 5 indirect, 8 widening, 4 the registers, 7 the page or the values, 3 and 6 the values
 abbrev pub Blamed : Field → List ℕ → Type 0
@@ -59,7 +60,7 @@ caused_faulty row (beyond e b) z =
     rw e (by_test (λ (f : Field). Faulty f row) (is_unknown (page_in row 15)) (λ u. inr u) (λ k. inr (inr (inr (b, k)))))
 caused_faulty row (far e w) z = rw e (inr w)
 
-pub named_faulty : (row : List ℕ) (address : ℕ) → ((answer_of row address).refusal ≡ 0 → ⊥) → Faulty (named_of row address) row
+pub named_faulty : (row : List ℕ) (address : ℕ) → ((told (answer_of row address)) ≡ 0 → ⊥) → Faulty (named_of row address) row
 unfolding field_of pick
 named_faulty row address refused = go (is_whole row) refl
   where

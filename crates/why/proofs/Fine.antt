@@ -7,14 +7,15 @@ use Prim.Native.Nat.{ℕ, ◌%◌, ◌<◌}
 use native.Mathlib.Omega.{arith}
 use lib.Dec.{eqb, ltb}
 use borrow.Author.Tests.{eqb-true, lt-ltb, eq-eqb}
+use Rattle.std.specs.Prelude.{Result, is_err}
 use Rattle.ground.specs.Choice.{pick}
+use Rattle.ground.specs.declared.refusals.Refusal.{Refusal}
 use Rattle.ground.proofs.Choices.{by_pick}
 use Rattle.values.specs.declared.Value.{Value}
 use Rattle.values.specs.declared.pages.Page.{Page}
 use Rattle.values.specs.Widths.{bits_of, valid_of}
 use Rattle.rows.specs.Forms.{register}
 use Rattle.rows.specs.Lookup.{has_form_of}
-use Rattle.postbytes.specs.declared.Listed.{Listed}
 use Rattle.postbytes.specs.Registers.{A, X, PC}
 use Rattle.postbytes.specs.Lists.{any_unknown, strange_list, among, size_of}
 use Rattle.postbytes.specs.ListsWritten.{push_of, paired_of}
@@ -39,12 +40,12 @@ listed a b = a ∷ b ∷ 0 ∷ 0 ∷ 0 ∷ 0 ∷ 0 ∷ 0 ∷ []
 
 module _ (o : Operand) where
   -- A with itself is a pair of one size, and a list without either stack pointer
-  listed_fine : o.registers ≡ listed A A → o.count ≡ 2 → (listed_of o).refusal ≡ 0
+  listed_fine : o.registers ≡ listed A A → o.count ≡ 2 → is_err (listed_of o) ≡ false
   unfolding listed_of paired_of push_of own_stack strange_list any_unknown among size_of pick
   listed_fine e c =
       rw (e, c)
-      (by_pick (λ (l : Listed). l.refusal ≡ 0) (is_pair o.operation) refl
-      (by_pick (λ (own : ℕ). (push_of own (listed A A) 2).refusal ≡ 0) (eqb o.operation pshs || eqb o.operation puls) refl refl))
+      (by_pick (λ (l : Result ℕ Refusal). is_err l ≡ false) (is_pair o.operation) refl
+      (by_pick (λ (own : ℕ). is_err (push_of own (listed A A) 2) ≡ false) (eqb o.operation pshs || eqb o.operation puls) refl refl))
 
   pub list_fine : o.mode ≡ mode_register → has_form_of o.operation register ≡ true → o.registers ≡ listed A A → o.count ≡ 2 → bad_registers o ≡ false
   unfolding bad_registers pick

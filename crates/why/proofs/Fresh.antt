@@ -1,14 +1,13 @@
 -- A fresh build comes to what is chosen for the form that its record asks for: accepted, with that form, marks and bytes; or, after 1 to 3, with the refusal of the choice.
 -- Assumes nothing.
-use mathlib.Core.Path.{◌≡◌, refl, sym, subst, ◌∙◌}
+use mathlib.Core.Path.{◌≡◌, sym, ◌∙◌}
 use mathlib.Core.Bool.{true}
 use Prim.Native.Nat.{ℕ, ◌+◌, ◌<◌}
-use native.Mathlib.Omega.{arith}
-use lib.Dec.{eqb}
-use borrow.Author.Tests.{eqb-true, eqb-false}
-use Rattle.ground.specs.Refusals.{value_missing}
+use Rattle.std.specs.Prelude.{Result, Ok, Err, IfOk, ⊤}
+use Rattle.ground.specs.declared.refusals.Refusal.{Refusal}
+use Rattle.ground.specs.declared.refusals.Refusal.TheVariants.{ValueMissing}
+use Rattle.ground.specs.Refusals.{number_of}
 use Rattle.ground.specs.Words.{plus}
-use Rattle.ground.proofs.Choices.{by_test}
 use Rattle.rows.specs.Lookup.{has_form_of}
 use Rattle.instruction.specs.declared.Record.{Record}
 use Rattle.instruction.specs.declared.Instruction.{Instruction}
@@ -17,13 +16,12 @@ use Rattle.instruction.specs.declared.Built.{Built}
 use Rattle.instruction.specs.Forms.{form_of}
 use Rattle.instruction.specs.Choosing.{choose_of}
 use Rattle.instruction.specs.Bytes.{operand_bytes, code_size, laid_at, laid_of}
-use Rattle.instruction.specs.Building.{instruction_of, early_of, accepted_of, fresh_of}
+use Rattle.instruction.specs.Building.{instruction_of, accepted_of, tried_of, fresh_of}
 use Rattle.instruction.proofs.Rows.{has_code}
 use Rattle.instruction.proofs.Ready.{fresh_built}
-use Rattle.instruction.proofs.Kept.{plain}
-use Rattle.instruction.proofs.AsFresh.{out_of, handed_out}
-use Rattle.instruction.proofs.Fits.{Early, early_leaves, Fits, choose_fits}
-use Rattle.instruction.proofs.Seven.{early_small}
+use Rattle.instruction.proofs.Fits.{Early, early_leaves, Fits, Builds, build_chosen}
+use Rattle.instruction.proofs.Results.{of_ok}
+use Rattle.instruction.proofs.Seven.{late_choice}
 use Rattle.instruction.proofs.Sizes.{code_length}
 use Rattle.why.specs.Reasons.{code_bytes}
 
@@ -31,59 +29,33 @@ use Rattle.why.specs.Reasons.{code_bytes}
 abbrev pub makes : Record → Instruction
 makes r = instruction_of r.operand (form_of r.operand r.values r.page)
 
-abbrev pub chosen_of : Record → ℕ → Chosen
+abbrev pub chosen_of : Record → ℕ → Result Chosen Refusal
 chosen_of r address = choose_of (makes r) r.values r.page address
-
-fresh_out : (r : Record) (address : ℕ) → fresh_of r address ≡ out_of r.operand (early_of (makes r) r.values) (chosen_of r address) address
-unfolding instruction_of
-fresh_out r address = fresh_built r address ∙ handed_out (makes r) r.values r.page address
 
 -- ---- accepted
 pub record Accepts (r : Record) (address : ℕ) (b : Built) : Type 0 where
+  pub choice : Chosen
   pub early : Early (makes r) r.values
-  pub chosen : (chosen_of r address).refusal ≡ 0
-  pub fits : Fits r.operand r.page address (chosen_of r address)
-  pub built : b ≡ accepted_of (plain r.operand 0) (chosen_of r address) address
+  pub chosen : chosen_of r address ≡ Ok choice
+  pub fits : Fits r.operand r.page address choice
+  pub built : b ≡ accepted_of (makes r) choice address
 
-pub accepts : (r : Record) (address : ℕ) → (fresh_of r address).refusal ≡ 0 → Accepts r address (fresh_of r address)
+-- what holds of all that is chosen and laid down holds of a fresh build
+pub accepted : (r : Record) (address : ℕ) (P : Built → Type 0) → ((b : Built) → Accepts r address b → P b) → IfOk (fresh_of r address) P
 unfolding instruction_of
-accepts r address =
-    subst (λ (b : Built). b.refusal ≡ 0 → Accepts r address b) (sym (fresh_out r address))
-    (by_test P (eqb n 0)
-    (λ a. by_test P (eqb c.refusal 0)
-    (λ d _.
-    let e = early_leaves (makes r) r.values (eqb-true n 0 a) in
-    let z = eqb-true c.refusal 0 d in
-    record { early = e; chosen = z; fits = choose_fits (makes r) r.values r.page address e z; built = refl })
-    (λ d z. absurd (eqb-false c.refusal 0 d z)))
-    (λ a z. absurd (eqb-false n 0 a z)))
+accepted r address P h = rw (fresh_built r address) (go (tried_of (makes r) r.values r.page address) (build_chosen (makes r) r.values r.page address))
   where
-    n : ℕ
-    n = early_of (makes r) r.values
-
-    c : Chosen
-    c = chosen_of r address
-
-    P : Built → Type 0
-    P b = b.refusal ≡ 0 → Accepts r address b
+    go : (t : Result Built Refusal) → IfOk t (Builds (makes r) r.values r.page address) → IfOk t P
+    go (Ok b) k = h b (record { choice = k.choice; early = k.early; chosen = k.chosen; fits = k.fits; built = k.built })
+    go (Err n) k = tt
 
 -- ---- refused later than 3
-pub refused_late : (r : Record) (address m : ℕ) → value_missing < m → (fresh_of r address).refusal ≡ m → Early (makes r) r.values × ((chosen_of r address).refusal ≡ m)
-unfolding accepted_of
-refused_late r address m late =
-    subst P (sym (fresh_out r address))
-    (by_test P (eqb n 0)
-    (λ a. by_test P (eqb c.refusal 0) (λ _ z. absurd (omega arith)) (λ _ z. (early_leaves (makes r) r.values (eqb-true n 0 a), z)))
-    (λ _ z. absurd (omega (arith, z, early_small (makes r) r.values))))
-  where
-    n : ℕ
-    n = early_of (makes r) r.values
-
-    c : Chosen
-    c = chosen_of r address
-
-    P : Built → Type 0
-    P b = b.refusal ≡ m → Early (makes r) r.values × ((chosen_of r address).refusal ≡ m)
+pub refused_late :
+    (r : Record) (address : ℕ) (m : Refusal) → number_of ValueMissing < number_of m → fresh_of r address ≡ Err m →
+    Early (makes r) r.values × (chosen_of r address ≡ Err m)
+refused_late r address m late e =
+    let d = late_choice (makes r) r.values r.page address m late (sym (fresh_built r address) ∙ e) in
+    (of_ok (λ (_ : ⊤). Early (makes r) r.values) (early_leaves (makes r) r.values) d.0, d.1)
 
 -- ---- its length
 -- what is laid is the code, and the operand's bytes behind it

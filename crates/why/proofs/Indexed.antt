@@ -7,7 +7,9 @@ use Prim.Native.Nat.{ℕ, ◌+◌}
 use native.Mathlib.Omega.{arith}
 use lib.Dec.{eqb}
 use borrow.Author.Tests.{eqb-true}
+use Rattle.std.specs.Prelude.{Result, IfOk}
 use Rattle.ground.specs.Choice.{pick}
+use Rattle.ground.specs.declared.refusals.Refusal.{Refusal}
 use Rattle.ground.specs.Words.{plus, minus}
 use Rattle.ground.proofs.Choices.{by_test, by_pick}
 use Rattle.ground.proofs.Tests.{both_first}
@@ -28,32 +30,33 @@ use Rattle.instruction.specs.Names.{mode_offset, mode_pc_relative}
 use Rattle.instruction.specs.Forms.{form_of}
 use Rattle.instruction.specs.Choosing.{settled, register_at, offset_value, offset_index, target_index, index_of, choose_of}
 use Rattle.instruction.specs.Bytes.{operand_bytes, laid_of}
-use Rattle.instruction.specs.Building.{instruction_of, accepted_of, fresh_of}
+use Rattle.instruction.specs.Building.{instruction_of, accepted_of}
 use Rattle.instruction.proofs.Fits.{offset_valid, known_index}
 use Rattle.why.specs.Reasons.{code_bytes, relative_distance, relative_reason, offset_number, offset_bits, offset_reason, reason_for}
 use Rattle.why.specs.Exactly.{RelativeTold, RelativeDecided, bytes_for, OffsetTold, OffsetHeld}
-use Rattle.why.proofs.Fresh.{makes, chosen_of, Accepts, accepts, laid_length}
+use Rattle.why.proofs.Fresh.{makes, chosen_of, Accepts, accepted, laid_length}
+use Rattle.instruction.proofs.Results.{of_ok}
 
 -- an accepted indexed operand: the code, and the bytes of its argument
 indexed_length :
-    (r : Record) (address : ℕ) (k : Accepts r address (fresh_of r address)) (a : Argument) →
-    chosen_of r address ≡ settled (makes r) indexed a →
-    (fresh_of r address).length
+    (r : Record) (address : ℕ) (b : Built) (k : Accepts r address b) (a : Argument) →
+    k.choice ≡ settled (makes r) indexed a →
+    b.length
     ≡ code_bytes r.operand.operation indexed
     + (operand_bytes r.operand.operation indexed a (plus address (code_bytes r.operand.operation indexed))).length
 unfolding instruction_of accepted_of
-indexed_length r address k a e =
+indexed_length r address b k a e =
     ap (λ (b : Built). b.length) k.built
     ∙ ap (λ (c : Chosen). (laid_of c address).length) e
     ∙ laid_length (settled (makes r) indexed a) address (subst (λ (c : Chosen). has_form_of c.operation c.form ≡ true) e k.fits.row)
 
 -- ---- PCRelative
-module _ (r : Record) (address : ℕ) (m : r.operand.mode ≡ mode_pc_relative) (z : (fresh_of r address).refusal ≡ 0) where
+module _ (r : Record) (address : ℕ) (m : r.operand.mode ≡ mode_pc_relative) where
   abbrev target : Argument
   target = Relative r.values.unsigned.number r.operand.indirect
 
-  Targets : Chosen → Type 0
-  Targets c = c.refusal ≡ 0 → c ≡ settled (makes r) indexed target
+  Targets : Result Chosen Refusal → Type 0
+  Targets x = IfOk x (λ c. c ≡ settled (makes r) indexed target)
 
   to_target : chosen_of r address ≡ target_index (makes r) r.values
   unfolding instruction_of form_of choose_of index_of pick
@@ -63,26 +66,25 @@ module _ (r : Record) (address : ℕ) (m : r.operand.mode ≡ mode_pc_relative) 
   unfolding Targets instruction_of target_index
   relative_chosen =
       subst Targets (sym to_target)
-      (by_pick Targets (eqb r.operand.count 1 && eqb (register_at r.operand 0) PC) (λ _. refl) (λ y. absurd (omega arith)))
+      (by_pick Targets (eqb r.operand.count 1 && eqb (register_at r.operand 0) PC) refl tt)
 
   relative_size : (n after : ℕ) (ind : Bool) → (relative_of n after ind).length ≡ pick (near_of (minus n (plus after 2))) 2 3
   unfolding relative_of pick
   relative_size n after ind = by_test (λ (e : Encoded). e.length ≡ pick (near_of (minus n (plus after 2))) 2 3) (near_of (minus n (plus after 2))) (λ t. rw t) (λ t. rw t)
 
-  relative_told : RelativeTold r address
+  relative_told : (b : Built) → Accepts r address b → RelativeTold r address b
   unfolding Targets reason_for relative_reason relative_distance operand_bytes pick
-  relative_told =
-      let k = accepts r address z in
+  relative_told b k =
       let after = plus address (code_bytes r.operand.operation indexed) in
       record {
         reason = rw m;
         length =
-            indexed_length r address k target (relative_chosen k.chosen)
+            indexed_length r address b k target (of_ok (λ (c : Chosen). c ≡ settled (makes r) indexed target) relative_chosen k.chosen)
             ∙ ap (λ (n : ℕ). code_bytes r.operand.operation indexed + n) (relative_size r.values.unsigned.number after r.operand.indirect);
       }
 
 pub relative_decided : RelativeDecided
-relative_decided r address m z = relative_told r address m z
+relative_decided r address m = accepted r address (RelativeTold r address) (relative_told r address m)
 
 -- ---- an offset
 -- a width is 8 or 16
@@ -113,10 +115,7 @@ constant_size reg ind width n w =
     go false p true q = rw (p, q)
     go false p false q = rw (p, q) (sized_size _ _ width n w)
 
-module _ (r : Record) (address : ℕ) (m : r.operand.mode ≡ mode_offset) (z : (fresh_of r address).refusal ≡ 0) where
-  k : Accepts r address (fresh_of r address)
-  k = accepts r address z
-
+module _ (r : Record) (address : ℕ) (m : r.operand.mode ≡ mode_offset) (b : Built) (k : Accepts r address b) where
   abbrev by : Value
   by = offset_value r.values
 
@@ -149,16 +148,16 @@ module _ (r : Record) (address : ℕ) (m : r.operand.mode ≡ mode_offset) (z : 
     size = λ _. rw (known_index (register_at r.operand 0) h, offset_valid r.values k.early.right, h, t) (constant_size (register_at r.operand 0) r.operand.indirect by.width (offset_number r.values) width);
   }
 
-  Held : Chosen → Type 0
-  Held c = c.refusal ≡ 0 → Holds c
+  Held : Result Chosen Refusal → Type 0
+  Held x = IfOk x Holds
 
   offset_chosen : Held (chosen_of r address)
   unfolding Held instruction_of offset_index
   offset_chosen =
       subst Held (sym to_offset)
-      (by_pick Held (not (eqb r.operand.count 1)) (λ y. absurd (omega arith))
-      (by_test Held (eqb (register_at r.operand 0) PC) (λ t _. on_counter t)
-      (λ t. by_test Held (not_indexing (register_at r.operand 0)) (λ _ y. absurd (omega arith)) (λ h _. on_register t h))))
+      (by_pick Held (not (eqb r.operand.count 1)) tt
+      (by_test Held (eqb (register_at r.operand 0) PC) on_counter
+      (λ t. by_test Held (not_indexing (register_at r.operand 0)) (λ _. tt) (λ h. on_register t h))))
 
   abbrev Bits : ℕ → Type 0
   Bits n = (n ≡ 0) ⊎ ((n ≡ 5) ⊎ ((n ≡ 8) ⊎ (n ≡ 16)))
@@ -170,16 +169,16 @@ module _ (r : Record) (address : ℕ) (m : r.operand.mode ≡ mode_offset) (z : 
       (by_pick Bits (eqb (offset_number r.values) 0) (inl refl)
       (by_pick Bits (five_bits r.operand.indirect (offset_number r.values)) (inr (inl refl)) (inr (inr width))))
 
-  offset_told : OffsetTold r address
+  offset_told : OffsetTold r address b
   unfolding Held reason_for offset_reason pick
   offset_told =
-      let h = offset_chosen k.chosen in
+      let h = of_ok Holds offset_chosen k.chosen in
       let code = code_bytes r.operand.operation indexed in
       record {
         reason = rw m;
-        length = omega (arith, indexed_length r address k h.argument h.whole, h.size (plus address code));
+        length = omega (arith, indexed_length r address b k h.argument h.whole, h.size (plus address code));
         bits = some_bits;
       }
 
 pub offset_held : OffsetHeld
-offset_held r address m z = offset_told r address m z
+offset_held r address m = accepted r address (OffsetTold r address) (offset_told r address m)

@@ -21,7 +21,7 @@ use Rattle.rows.proofs.Codes.{form_small}
 use Rattle.instruction.specs.declared.Record.{Record}
 use Rattle.instruction.specs.Records.{recognised, lawful}
 use Rattle.instruction.specs.Forms.{lacks}
-use Rattle.instruction.specs.Building.{made_as, make_of, fresh_from, fresh_of}
+use Rattle.instruction.specs.Building.{made_as, make_of, fresh_of, told}
 use Rattle.instruction.proofs.Rows.{operation_small}
 use Rattle.instruction.proofs.Formed.{relative_branch}
 use Rattle.instruction.proofs.Fits.{unsigned_word}
@@ -45,8 +45,8 @@ same_field row other n p q = rw (p, q)
 -- so two rows that are both refused 7 must not name two fields
 abbrev Seven : List ℕ → List ℕ → ℕ → Type 0
 Seven row other address =
-    (answer_of row address).refusal ≡ direct_not_allowed →
-    (answer_of other address).refusal ≡ direct_not_allowed →
+    (told (answer_of row address)) ≡ direct_not_allowed →
+    (told (answer_of other address)) ≡ direct_not_allowed →
     (named_of other address ≡ named_of row address → ⊥) → ⊥
 
 -- under one page 7 names one field
@@ -55,7 +55,7 @@ unfolding field_of page_or_values page_in pick
 same_page row other address e p q differs = differs (rw (p, q, e))
 
 module _ (row : List ℕ) (address : ℕ) (field : Field) (named : named_of row address ≡ field) (c : Cured field row) (seven : Seven row c.other address) where
-  other_field : ((answer_of c.other address).refusal ≡ 0 → ⊥) → named_of c.other address ≡ named_of row address → ⊥
+  other_field : ((told (answer_of c.other address)) ≡ 0 → ⊥) → named_of c.other address ≡ named_of row address → ⊥
   other_field refused same =
       ⊎_elim
       (λ (w : is_right field c.other ≡ false). false≢true (sym w ∙ c.right))
@@ -64,13 +64,13 @@ module _ (row : List ℕ) (address : ℕ) (field : Field) (named : named_of row 
 
   other_number :
       (named_of c.other address ≡ named_of row address → ⊥) →
-      ((answer_of row address).refusal ≡ unknown) ⊎ ((answer_of c.other address).refusal ≡ (answer_of row address).refusal → ⊥)
+      ((told (answer_of row address)) ≡ unknown) ⊎ ((told (answer_of c.other address)) ≡ (told (answer_of row address)) → ⊥)
   other_number differs = go (eqb n unknown) refl (eqb n direct_not_allowed) refl
     where
       n : ℕ
-      n = (answer_of row address).refusal
+      n = (told (answer_of row address))
 
-      go : (a : Bool) → eqb n unknown ≡ a → (b : Bool) → eqb n direct_not_allowed ≡ b → (n ≡ unknown) ⊎ ((answer_of c.other address).refusal ≡ n → ⊥)
+      go : (a : Bool) → eqb n unknown ≡ a → (b : Bool) → eqb n direct_not_allowed ≡ b → (n ≡ unknown) ⊎ ((told (answer_of c.other address)) ≡ n → ⊥)
       go true p b q = inl (eqb-true n unknown p)
       go false p true q = inr (λ same. let e = eqb-true n direct_not_allowed q in seven e (same ∙ e) differs)
       go false p false q = inr (λ same. differs (ap (field_of c.other) same ∙ same_field row c.other n p q))
@@ -83,7 +83,7 @@ module _ (row : List ℕ) (address : ℕ) (field : Field) (named : named_of row 
   }
     where
       n : ℕ
-      n = (answer_of c.other address).refusal
+      n = (told (answer_of c.other address))
 
       go : (t : Bool) → eqb n 0 ≡ t → (n ≡ 0) ⊎ Elsewhere row c.other address
       go true q = inl (eqb-true n 0 q)
@@ -98,7 +98,7 @@ page_seven row address p q differs = false≢true (sym b.unreached ∙ reached)
     other : List ℕ
     other = (page_cured row).other
 
-    whole : (r : List ℕ) → (answer_of r address).refusal ≡ direct_not_allowed → is_whole r ≡ true
+    whole : (r : List ℕ) → (told (answer_of r address)) ≡ direct_not_allowed → is_whole r ≡ true
     whole r e = go (is_whole r) refl
       where
         go : (t : Bool) → is_whole r ≡ t → is_whole r ≡ true
@@ -186,8 +186,8 @@ branch_lacks r h i =
     let o = r.operand in
     rw (no_other_form o.operation (asked_of r) h (λ z. false≢true (sym (relative_branch o r.values r.page z).straight ∙ i)))
 
-lacking_two : (r : Record) (address : ℕ) → (recognised r.operand && lawful r.values) ≡ true → lacks r.operand (asked_of r) ≡ true → (fresh_of r address).refusal ≡ no_such_mode
-unfolding fresh_of fresh_from make_of made_as pick
+lacking_two : (r : Record) (address : ℕ) → (recognised r.operand && lawful r.values) ≡ true → lacks r.operand (asked_of r) ≡ true → (told (fresh_of r address)) ≡ no_such_mode
+unfolding fresh_of make_of made_as pick
 lacking_two r address w l = rw (w, l)
 
 pub no_mode_helps : NoModeHelps
@@ -200,7 +200,7 @@ no_mode_helps row other address branch alike = go (is_whole other) refl
     indirect : flag_in other 2 ≡ flag_in row 2
     indirect = rw (alike.kept 2 refl)
 
-    go : (t : Bool) → is_whole other ≡ t → ((answer_of other address).refusal ≡ unknown) ⊎ ((answer_of other address).refusal ≡ no_such_mode)
+    go : (t : Bool) → is_whole other ≡ t → ((told (answer_of other address)) ≡ unknown) ⊎ ((told (answer_of other address)) ≡ no_such_mode)
     go false w = inl (broken_one other address w)
     go true w =
         let e = entry_plain other w in

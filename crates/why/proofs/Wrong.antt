@@ -15,7 +15,7 @@ use Rattle.ground.proofs.Tests.{both_first, both_second}
 use Rattle.rows.specs.Lookup.{known_of}
 use Rattle.postbytes.specs.Lists.{strange_list}
 use Rattle.instruction.specs.Records.{stepped, recognised, lawful}
-use Rattle.instruction.specs.Building.{make_of, fresh_from, fresh_of}
+use Rattle.instruction.specs.Building.{make_of, fresh_of, told}
 use Rattle.entries.specs.Entries.{byte_in, is_flag, is_page_in, flagged_in, registers_in, fields_in, told_in, values_in, all_flagged, entry_of}
 use Rattle.entries.proofs.Unknown.{unrecognised}
 use Rattle.why.specs.declared.Field.{Field}
@@ -168,15 +168,15 @@ module _ (row : List ℕ) where
       (both_second (is_flag row 16) (lawful (values_in row)) values))
 
   module _ (address : ℕ) where
-    pub broken_one : is_whole row ≡ false → (answer_of row address).refusal ≡ unknown
-    unfolding entry_of fresh_of fresh_from make_of pick
+    pub broken_one : is_whole row ≡ false → (told (answer_of row address)) ≡ unknown
+    unfolding entry_of fresh_of make_of pick
     broken_one w = rw w
 
-    whole_other : is_whole row ≡ true → (answer_of row address).refusal ≡ unknown → ⊥
+    whole_other : is_whole row ≡ true → (told (answer_of row address)) ≡ unknown → ⊥
     unfolding entry_of
     whole_other w = not_one (cause (entry_of row) address w)
 
-    one_wrong : (answer_of row address).refusal ≡ unknown → is_right (first_wrong row) row ≡ false
+    one_wrong : (told (answer_of row address)) ≡ unknown → is_right (first_wrong row) row ≡ false
     one_wrong one = ⊎_elim (λ w. w) (λ last. go last (is_right (first_wrong row) row) refl) (first_at row).wrong
       where
         go : first_wrong row ≡ Values → (t : Bool) → is_right (first_wrong row) row ≡ t → is_right (first_wrong row) row ≡ false
@@ -184,10 +184,10 @@ module _ (row : List ℕ) where
         go last true q =
             absurd (whole_other (right_whole (subst (λ (f : Field). Before row (field_number f + 1)) last (one_more row (first_wrong row) (first_at row).before q))) one)
 
-    wrong_one : (field : Field) → is_right field row ≡ false → (answer_of row address).refusal ≡ unknown
+    wrong_one : (field : Field) → is_right field row ≡ false → (told (answer_of row address)) ≡ unknown
     wrong_one field wrong = go (is_whole row) refl
       where
-        go : (t : Bool) → is_whole row ≡ t → (answer_of row address).refusal ≡ unknown
+        go : (t : Bool) → is_whole row ≡ t → (told (answer_of row address)) ≡ unknown
         go true w = absurd (false≢true (sym wrong ∙ whole_right w field))
         go false w = broken_one w
 

@@ -3,6 +3,7 @@ use Rattle.std.specs.Prelude.{◌≡◌, Bool, true, false, ◌&&◌, List, ◌�
 use Rattle.ground.specs.Refusals.{unknown, no_such_mode}
 use Rattle.rows.specs.Forms.{relative}
 use Rattle.rows.specs.Lookup.{has_form_of}
+use Rattle.instruction.specs.Building.{told}
 use Rattle.entries.specs.Entries.{byte_in, flag_in}
 use Rattle.why.specs.declared.Field.{Field}
 use Rattle.why.specs.declared.Field.TheVariants.{Operation, Mode, Indirect, Forced, Step, Widening, Registers, Page, Values}
@@ -30,18 +31,18 @@ pub record AlikeBut (field : Field) (row other : List ℕ) : Type 0 where
 -- ---- the refusal removed
 -- the field that is named of a row
 abbrev pub named_of : List ℕ → ℕ → Field
-named_of row address = field_of row (answer_of row address).refusal
+named_of row address = field_of row (told (answer_of row address))
 
 -- another row is refused for another field, and under another number, but that a 1 may have had a second wrong field behind it
 pub record Elsewhere (row other : List ℕ) (address : ℕ) : Type 0 where
   pub field : named_of other address ≡ named_of row address → ⊥
-  pub number : ((answer_of row address).refusal ≡ unknown) ⊎ ((answer_of other address).refusal ≡ (answer_of row address).refusal → ⊥)
+  pub number : (told (answer_of row address) ≡ unknown) ⊎ (told (answer_of other address) ≡ told (answer_of row address) → ⊥)
 
 -- a row that differs in the named field alone, and is accepted or refused for something else
 pub record Mended (row : List ℕ) (address : ℕ) : Type 0 where
   pub other : List ℕ
   pub alike : AlikeBut (named_of row address) row other
-  pub rid : ((answer_of other address).refusal ≡ 0) ⊎ Elsewhere row other address
+  pub rid : (told (answer_of other address) ≡ 0) ⊎ Elsewhere row other address
 
 -- ---- the one exception
 -- a branch that is indirect: it has no indirect form, and no mode but Extended, so that two fields are wrong at once
@@ -53,7 +54,7 @@ pub record IndirectBranch (row : List ℕ) : Type 0 where
 abbrev pub CanMend : Type 0
 CanMend =
     (row : List ℕ) (address : ℕ) →
-    ((answer_of row address).refusal ≡ 0 → ⊥) →
+    (told (answer_of row address) ≡ 0 → ⊥) →
     (named_of row address ≡ Mode → IndirectBranch row → ⊥) →
     Mended row address
 
@@ -63,4 +64,4 @@ NoModeHelps =
     (row other : List ℕ) (address : ℕ) →
     IndirectBranch row →
     AlikeBut Mode row other →
-    ((answer_of other address).refusal ≡ unknown) ⊎ ((answer_of other address).refusal ≡ no_such_mode)
+    (told (answer_of other address) ≡ unknown) ⊎ (told (answer_of other address) ≡ no_such_mode)

@@ -1,5 +1,6 @@
 // The field that a refusal is about.
 ghost use Rattle.std.specs.Prelude.{◌≡◌, not};
+ghost use Rattle.ground.specs.Refusals.{number_of};
 ghost use Rattle.postbytes.specs.Lists.{strange_list};
 ghost use Rattle.instruction.specs.Records.{stepped};
 ghost use Rattle.entries.specs.Entries.{byte_in, registers_in, fields_in};
@@ -7,7 +8,7 @@ ghost use Rattle.why.specs.Fields.{if_wrong, first_wrong, page_or_values, field_
 
 use crate::Field;
 use entries::{byte_in, is_flag, is_page_in, operand_of, page_in};
-use ground::refusals;
+use ground::refusals::Refusal;
 use instruction::validity::is_stepped;
 use postbytes::lists;
 
@@ -58,16 +59,17 @@ fn page_or_values(row: &[u16]) -> Field
     Field::Values
 }
 
-pub(crate) fn field_of(row: &[u16], refusal: u8) -> Field
-    ensures { result ≡ field_of row.now refusal }
+#[tactic(auto, using(crate::proofs::Told::values_blamed), unfolding(crate::specs::Fields::field_of, ground::specs::Choice::pick))]
+pub(crate) fn field_of(row: &[u16], refusal: Refusal) -> Field
+    ensures { result ≡ field_of row.now (number_of refusal) }
 {
     match refusal {
-        refusals::UNKNOWN => first_wrong(row),
-        refusals::NO_SUCH_MODE => Field::Mode,
-        refusals::BAD_REGISTER => Field::Registers,
-        refusals::SINGLE_STEP_INDIRECT => Field::Indirect,
-        refusals::DIRECT_NOT_ALLOWED => page_or_values(row),
-        refusals::BRANCH_TOO_FAR => Field::Widening,
+        Refusal::Unknown => first_wrong(row),
+        Refusal::NoSuchMode => Field::Mode,
+        Refusal::BadRegister => Field::Registers,
+        Refusal::SingleStepIndirect => Field::Indirect,
+        Refusal::DirectNotAllowed => page_or_values(row),
+        Refusal::BranchTooFar => Field::Widening,
         _ => Field::Values,
     }
 }

@@ -10,6 +10,7 @@ ghost use Rattle.why.specs.Explaining.{reason_as, explained_of};
 
 use entries::entry_of;
 use fields::field_of;
+use ground::refusals::Refusal;
 use instruction::{Built, assemble};
 use reasons::reason_for;
 
@@ -61,7 +62,7 @@ pub enum Reason {
 // What a fresh build answers, and why.
 #[derive(Clone, Copy)]
 pub struct Explained {
-    pub built: Built,
+    pub built: Result<Built, Refusal>,
     pub reason: Reason,
 }
 
@@ -144,14 +145,16 @@ impl Reason {
 }
 
 // Of an accepted build its record's reason, of a refused one its field.
-fn reason_as(row: &[u16], refusal: u8, address: u16) -> Reason
-    ensures { result ≡ reason_as row.now refusal address }
+fn reason_as(row: &[u16], built: Result<Built, Refusal>, address: u16) -> Reason
+    ensures { result ≡ reason_as row.now built address }
 {
-    if refusal != 0 {
-        let field = field_of(row, refusal);
-        return Reason::Refused { field };
+    match built {
+        Ok(_) => reason_for(entry_of(row), address),
+        Err(refusal) => {
+            let field = field_of(row, refusal);
+            Reason::Refused { field }
+        }
     }
-    reason_for(entry_of(row), address)
 }
 
 // A record's row and an address: what the fresh build answers, and why. It makes the build itself, so that the two cannot part. It takes the row, and not the record
@@ -160,6 +163,6 @@ pub fn explain(row: &[u16], address: u16) -> Explained
     ensures { result ≡ explained_of row.now address }
 {
     let built = assemble(entry_of(row), address);
-    let reason = reason_as(row, built.refusal, address);
+    let reason = reason_as(row, built, address);
     Explained { built, reason }
 }

@@ -11,7 +11,7 @@ use postbytes::encoding::{five_bits, near};
 use postbytes::numbers::PC;
 use rows::forms::*;
 use rows::sizes::number_size;
-use rows::{Coded, code_of, has_form};
+use rows::{Code, code_of, has_form};
 use values::pages::Page;
 
 // A known page that is not the address's high byte.
@@ -45,9 +45,8 @@ fn code_bytes(operation: u8, form: u8) -> u16
 {
     let coded = code_of(operation, form);
     match coded {
-        Coded::Code { page, code: _ } => if page == 0 { 1 } else { 2 },
-        Coded::Unknown => 0,
-        Coded::Missing => 0,
+        Ok(Code { page, code: _ }) => if page == 0 { 1 } else { 2 },
+        Err(_) => 0,
     }
 }
 

@@ -11,4 +11,4 @@ returns-then-answer-cells c = too_short_lem _ _ c.if-refusal-ne0.false c.if-answ
 
 pub returns : goal.returns
 returns c =
-    handed _ _ c.if-refusal-ne0.false c.if-answer-cells.false c.store_cells.ensures
+    handed _ _ c.if-refusal-ne0.false c.if-answer-cells.false c.store_all.ensures

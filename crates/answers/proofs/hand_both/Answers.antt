@@ -19,4 +19,4 @@ returns c =
     let xs = a.first.now in
     let ys = a.second.now in
     handed _ _ c.if-refusal-ne0.false (omega (arith, length-append xs ys, c.if-answer-seam.false))
-    (in_two a.answer.now xs ys c.store_cells.ensures c.store_cells-2.ensures)
+    (in_two a.answer.now xs ys c.store_all.ensures c.store_all-2.ensures)

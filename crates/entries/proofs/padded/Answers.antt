@@ -6,4 +6,4 @@ use Rattle.entries.proofs.padded.Goals as goal
 pub returns : goal.returns
 unfolding cells_of
 returns c =
-    rw (c.cell-21.ensures, c.cell-20.ensures, c.cell-19.ensures, c.cell-18.ensures, c.cell-17.ensures, c.cell-16.ensures, c.cell-15.ensures, c.cell-14.ensures, c.cell-13.ensures, c.cell-12.ensures, c.cell-11.ensures, c.cell-10.ensures, c.cell-9.ensures, c.cell-8.ensures, c.cell-7.ensures, c.cell-6.ensures, c.cell-5.ensures, c.cell-4.ensures, c.cell-3.ensures, c.cell-2.ensures, c.cell.ensures)
+    rw (c.cell_or-21.ensures, c.cell_or-20.ensures, c.cell_or-19.ensures, c.cell_or-18.ensures, c.cell_or-17.ensures, c.cell_or-16.ensures, c.cell_or-15.ensures, c.cell_or-14.ensures, c.cell_or-13.ensures, c.cell_or-12.ensures, c.cell_or-11.ensures, c.cell_or-10.ensures, c.cell_or-9.ensures, c.cell_or-8.ensures, c.cell_or-7.ensures, c.cell_or-6.ensures, c.cell_or-5.ensures, c.cell_or-4.ensures, c.cell_or-3.ensures, c.cell_or-2.ensures, c.cell_or.ensures)

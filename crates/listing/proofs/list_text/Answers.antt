@@ -9,7 +9,7 @@ pub returns-then-short : goal.returns-then-short
 returns-then-short c =
     let a = c.args in
     let p = no_room_lem a.text.now a.out.now c.list_all-length.result (omega (arith, c.list_all-length.ensures.next)) (lt-ltb _ _ c.if-short.true) in
-    record { value = p.0; out_after = p.1.0; counts = p.1.1 }
+    record { value = p.value; out_after = p.after; counts = p.counts; enough = p.enough }
 
 pub returns : goal.returns
 returns c =
@@ -17,4 +17,4 @@ returns c =
     let p =
     shown a.text.now a.out.now c.list_all-length.result (omega (arith, c.list_all-length.ensures.next)) (le-ltb _ _ c.if-short.false)
     c.list_all.ensures in
-    record { value = p.0; out_after = p.1.0; counts = p.1.1 }
+    record { value = p.value; out_after = p.after; counts = p.counts; enough = p.enough }

@@ -1,8 +1,8 @@
 -- `listing::refusal_of` meets its contract.
 -- Assumes nothing.
 use mathlib.Core.Path.{◌∙◌, ap}
+use Rattle.std.specs.Result.{result_err}
 use Rattle.ground.specs.Choice.{pick}
-use Rattle.reader.specs.declared.runs.Run.{Run}
 use Rattle.listing.specs.Listing.{refusal_of}
 use Rattle.listing.proofs.Texts.{asked_refusal}
 use borrow.Author.Tests.{lt-ltb, le-ltb}
@@ -14,4 +14,4 @@ returns-then-long c = rw (lt-ltb _ _ c.if-long.true)
 
 pub returns : goal.returns
 unfolding refusal_of pick
-returns c = rw (le-ltb _ _ c.if-long.false) (ap (λ (r : Run). r.refusal) c.run_at-first.ensures ∙ asked_refusal c.args.text.now)
+returns c = rw (le-ltb _ _ c.if-long.false) (c.err.ensures.value ∙ ap result_err c.run_at.ensures ∙ asked_refusal c.args.text.now)

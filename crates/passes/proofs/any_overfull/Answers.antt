@@ -1,14 +1,18 @@
--- `passes::any_overfull` meets its contract: none of the statements passed is too long.
+-- `passes::any_overfull` meets its contract: the closure computes the definition's test.
 -- Assumes nothing.
-use mathlib.Core.Path.{◌∙◌, sym}
-use Rattle.passes.proofs.Rounds.{any_hit, any_miss, any_none}
+use native.Mathlib.Omega.{arith}
+use mathlib.Core.Path.{refl}
+use borrow.Author.Rules.{rules}
+use borrow.Author.Tests.{tests}
+use Rattle.std.proofs.lemmas.Iterator.{YieldsList-from_range}
+use Rattle.std.proofs.lemmas.Iterator.Search.{any_from_yields_List}
+use Rattle.statements.specs.Listing.{overfull_at}
+use Rattle.passes.specs.Passes.{overfull_in}
 use Rattle.passes.proofs.any_overfull.Goals as goal
 
-pub returns-then-overfull : goal.returns-then-overfull
-returns-then-overfull c = sym (any_hit _ _ c.loop-i-test.true (sym c.overfull.ensures ∙ c.if-overfull.true)) ∙ c.loop-i.invariant
-
-pub loop-i-preserved : goal.loop-i-preserved
-loop-i-preserved c = any_miss _ _ c.loop-i-test.true (sym c.overfull.ensures ∙ c.if-overfull.false) ∙ c.loop-i.invariant
-
 pub returns : goal.returns
-returns c = sym (any_none _ _ c.loop-i-test.false) ∙ c.loop-i.invariant
+unfolding overfull_in
+returns c =
+    any_from_yields_List (overfull_at c.args.list.now) _ _ _ c.any.ensures.ran
+    (YieldsList-from_range 0 c.args.rows c.args.rows refl (omega arith))
+    (λ x b q k. search (rules, tests))

@@ -6,23 +6,23 @@ use Rattle.reader.proofs.Lines.{end_of_text, line_feed, return_feed, no_return, 
 use Rattle.reader.proofs.after_end.Goals as goal
 
 pub returns-then-at-text : goal.returns-then-at-text
-returns-then-at-text c = end_of_text _ _ (omega arith) c.if-at-text.true
+returns-then-at-text c = end_of_text _ _ c.if-at-text.true
 
 pub returns-then-c-eq10 : goal.returns-then-c-eq10
-returns-then-c-eq10 c = line_feed _ _ (omega arith) (sym c.byte-c.ensures ∙ c.if-c-eq10.true)
+returns-then-c-eq10 c = line_feed _ _ (sym c.cell_or-c.ensures ∙ c.if-c-eq10.true)
 
-pub returns-then-byte-eq10 : goal.returns-then-byte-eq10
-returns-then-byte-eq10 c =
+pub returns-then-cell_or-eq10 : goal.returns-then-cell_or-eq10
+returns-then-cell_or-eq10 c =
     return_feed _ _
-    (sym c.byte-c.ensures ∙ c.if-c-eq13.true)
-    (sym c.byte.ensures ∙ c.if-byte-eq10.true)
+    (sym c.cell_or-c.ensures ∙ c.if-c-eq13.true)
+    (sym c.cell_or.ensures ∙ c.if-cell_or-eq10.true)
 
-pub returns-else-byte-eq10 : goal.returns-else-byte-eq10
-returns-else-byte-eq10 c =
-    let b = c.byte-c.ensures in
-    lone_return _ _ (omega arith) (λ e. c.if-c-eq10.false (b ∙ e)) (λ e. c.if-byte-eq10.false (c.byte.ensures ∙ e))
+pub returns-else-cell_or-eq10 : goal.returns-else-cell_or-eq10
+returns-else-cell_or-eq10 c =
+    let b = c.cell_or-c.ensures in
+    lone_return c.args.text.now c.args.at (omega arith) (λ e. c.if-c-eq10.false (b ∙ e)) (λ e. c.if-cell_or-eq10.false (c.cell_or.ensures ∙ e))
 
 pub returns-else-c-eq13 : goal.returns-else-c-eq13
 returns-else-c-eq13 c =
-    let b = c.byte-c.ensures in
-    no_return _ _ (omega arith) (λ e. c.if-c-eq10.false (b ∙ e)) (λ e. c.if-c-eq13.false (b ∙ e))
+    let b = c.cell_or-c.ensures in
+    no_return c.args.text.now c.args.at (omega arith) (λ e. c.if-c-eq10.false (b ∙ e)) (λ e. c.if-c-eq13.false (b ∙ e))

@@ -1,46 +1,37 @@
 -- `reader::line_at` meets its contract: a line is sound where its digits, their sum and its end are.
 -- Assumes nothing.
-use mathlib.Core.Path.{sym, ◌∙◌, subst}
-use native.Mathlib.Omega.{arith}
-use Rattle.reader.specs.Steps.{LineIs}
-use Rattle.reader.proofs.Lines.{stands, no_colon, no_line, sound_there, line_there}
+use mathlib.Core.Path.{sym, ◌∙◌}
+use Rattle.reader.proofs.Lines.{no_colon, no_count, no_end, no_line, sound_there}
 use Rattle.reader.proofs.line_at.Goals as goal
 
-pub returns-then-byte-ne58 : goal.returns-then-byte-ne58
-returns-then-byte-ne58 c = no_colon _ _ (λ e. c.if-byte-ne58.true (c.byte.ensures ∙ e))
+pub returns-then-cell_or-ne58 : goal.returns-then-cell_or-ne58
+returns-then-cell_or-ne58 c = no_colon _ _ (λ e. c.if-cell_or-ne58.true (c.cell_or.ensures ∙ e))
 
-pub pairs_at-pairs-requires : goal.pairs_at-pairs-requires
-pairs_at-pairs-requires c =
-    let a = c.args in
-    omega (arith, stands a.text.now a.at (omega (arith, c.byte.ensures, c.if-byte-ne58.false)))
+pub returns-in_default : goal.returns-in_default
+returns-in_default c = no_count _ _ (sym c.cell_or.ensures ∙ c.if-cell_or-ne58.false) (sym c.pair_at.ensures ∙ c.in_default.is)
+
+pub returns-in_default-after_end : goal.returns-in_default-after_end
+returns-in_default-after_end c =
+    no_end _ _ (sym c.cell_or.ensures ∙ c.if-cell_or-ne58.false) _
+    c.pairs_at-pairs.ensures.ended
+    (rw c.in_default-after_end.is at c.after_end.ensures)
 
 pub sound_line-requires : goal.sound_line-requires
 sound_line-requires c =
-    sound_there _ _ _ _ _ _
-    (sym c.byte.ensures ∙ c.if-byte-ne58.false)
+    sound_there _ _ (sym c.cell_or.ensures ∙ c.if-cell_or-ne58.false) _
     c.pairs_at-pairs.ensures.ended
+    _ _ _
     c.pairs_at-pairs.ensures.summed
-    c.after_end-next.ensures
-    c.pair_at-count.ensures.0
+    (sym c.pair_at.ensures ∙ c.in-Some.is)
+    (rw c.in-Some-after_end.is at c.after_end.ensures)
     c.if-sound.true
-
-pub returns-then-sound : goal.returns-then-sound
-returns-then-sound c =
-    subst (LineIs _ _) (sym c.sound_line.ensures)
-    (line_there _ _ _ _ _ _
-    (sym c.byte.ensures ∙ c.if-byte-ne58.false)
-    c.pairs_at-pairs.ensures.ended
-    c.pairs_at-pairs.ensures.summed
-    c.after_end-next.ensures
-    c.pair_at-count.ensures.0
-    c.if-sound.true)
 
 pub returns : goal.returns
 returns c =
-    no_line _ _ _ _ _ _
-    (sym c.byte.ensures ∙ c.if-byte-ne58.false)
+    no_line c.args.text.now c.args.at (sym c.cell_or.ensures ∙ c.if-cell_or-ne58.false) c.pairs_at-pairs.result.end
     c.pairs_at-pairs.ensures.ended
+    c.pairs_at-pairs.result.sum c.in-Some.count c.in-Some-after_end.next
     c.pairs_at-pairs.ensures.summed
-    c.after_end-next.ensures
-    c.pair_at-count.ensures.0
+    (sym c.pair_at.ensures ∙ c.in-Some.is)
+    (rw c.in-Some-after_end.is at c.after_end.ensures)
     c.if-sound.false

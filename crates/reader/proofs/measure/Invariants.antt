@@ -9,10 +9,10 @@ use Rattle.reader.specs.Answers.{size_of}
 use Rattle.reader.specs.Steps.{totalled}
 use Rattle.reader.proofs.measure.Given as goal
 
-abbrev pub invariant-loop-address : goal.invariant-loop-address
-invariant-loop-address l =
+abbrev pub invariant-loop-line : goal.invariant-loop-line
+invariant-loop-line l =
     (totalled l.tally (records_in (drop l.at l.text)) ≡ size_of (records_in l.text))
     × Walked l.text l.at l.tally
 
-abbrev pub decreases-loop-address : goal.decreases-loop-address
-decreases-loop-address l = length l.text - l.at
+abbrev pub decreases-loop-line : goal.decreases-loop-line
+decreases-loop-line l = length l.text - l.at

@@ -5,8 +5,8 @@ use lib.ListN.{length}
 use Rattle.reader.proofs.Tallies.{Storing}
 use Rattle.reader.proofs.store_all.Given as goal
 
-abbrev pub invariant-loop-address : goal.invariant-loop-address
-invariant-loop-address l = Storing l.text l.initial.bytes l.initial.rows l.at l.tally l.bytes l.rows
+abbrev pub invariant-loop-line : goal.invariant-loop-line
+invariant-loop-line l = Storing l.text l.initial.bytes l.initial.rows l.at l.tally l.bytes l.rows
 
-abbrev pub decreases-loop-address : goal.decreases-loop-address
-decreases-loop-address l = length l.text - l.at
+abbrev pub decreases-loop-line : goal.decreases-loop-line
+decreases-loop-line l = length l.text - l.at

@@ -9,15 +9,15 @@ use Rattle.reader.proofs.store_row.Goals as goal
 pub overflow_sub-row : goal.overflow_sub-row
 overflow_sub-row c =
     let a = c.args in
-    omega (arith, begins_some a.tally a.address (eqb a.tally.runs 0) refl (sym c.begins.ensures ∙ c.if-begins.false))
+    omega (arith, begins_some a.tally a.line.address (eqb a.tally.runs 0) refl (sym c.begins.ensures ∙ c.if-begins.false))
 
 pub returns-then-begins : goal.returns-then-begins
 returns-then-begins c =
     row_begins _ _ _ _ _ _
-    c.store_cell.ensures
-    c.store_cell-then-begins.ensures
+    c.store.ensures
+    c.store-then-begins.ensures
     (sym c.begins.ensures ∙ c.if-begins.true)
 
 pub returns-else-begins : goal.returns-else-begins
 returns-else-begins c =
-    row_follows _ _ _ _ _ c.store_cell-else-begins.ensures (sym c.begins.ensures ∙ c.if-begins.false)
+    row_follows _ _ _ _ _ c.store-else-begins.ensures (sym c.begins.ensures ∙ c.if-begins.false)

@@ -4,8 +4,5 @@ use Rattle.passes.specs.Walks.{source}
 use Rattle.assembly.proofs.Turns.{Gone}
 use Rattle.assembly.proofs.output.emit.Given as goal
 
-abbrev pub invariant-loop-left : goal.invariant-loop-left
-invariant-loop-left l = Gone (source l.list l.items l.nodes) l.labels l.n l.initial.objects l.initial.values l.objects l.values l.s l.i l.left
-
-abbrev pub decreases-loop-left : goal.decreases-loop-left
-decreases-loop-left l = l.left
+abbrev pub invariant-loop-i : goal.invariant-loop-i
+invariant-loop-i l = Gone (source l.list l.items l.nodes) l.labels l.n l.initial.objects l.initial.values l.objects l.values l.s l.i

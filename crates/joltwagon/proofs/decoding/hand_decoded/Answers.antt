@@ -1,8 +1,10 @@
 -- `joltwagon::decoding::hand_decoded` meets its contract.
 -- Assumes nothing.
-use Rattle.answers.proofs.Laws.{said_as}
-use Rattle.joltwagon.proofs.Spoken.{decoded_said_lem}
+use mathlib.Core.Path.{sym, ap}
+use Rattle.joltwagon.specs.Decoding.{decoded_said}
+use Rattle.joltwagon.proofs.Spoken.{refusal_told}
 use Rattle.joltwagon.proofs.decoding.hand_decoded.Goals as goal
 
-pub returns : goal.returns
-returns c = said_as _ (decoded_said_lem _ c.in_parts-parts.ensures c.flag.ensures) c.hand.ensures
+pub returns-in-Err : goal.returns-in-Err
+unfolding decoded_said
+returns-in-Err c = refusal_told c.in-Err.refusal _ c.number.ensures (sym (ap decoded_said c.in-Err.is))

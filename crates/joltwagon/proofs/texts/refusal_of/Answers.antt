@@ -1,8 +1,12 @@
 -- `joltwagon::texts::refusal_of` meets its contract.
 -- Assumes nothing.
-use mathlib.Core.Path.{ap}
-use Rattle.reader.specs.declared.Read.{Read}
+use Rattle.joltwagon.specs.Texts.{read_said}
 use Rattle.joltwagon.proofs.texts.refusal_of.Goals as goal
 
-pub returns : goal.returns
-returns c = ap (λ (r : Read). r.refusal) c.read_text-read.ensures.answer
+pub returns-in-Ok : goal.returns-in-Ok
+unfolding read_said
+returns-in-Ok c = rw (← c.read_text.ensures.answer, c.in-Ok.is)
+
+pub returns-in-Err : goal.returns-in-Err
+unfolding read_said
+returns-in-Err c = rw (← c.read_text.ensures.answer, c.in-Err.is) c.number.ensures

@@ -2,13 +2,9 @@
 -- Assumes nothing.
 use mathlib.Core.Path.{◌≡◌}
 use Prim.Native.Nat.{◌≤◌}
-use lib.ListN.{length}
 use Rattle.statements.specs.Listing.{rows_of}
 use Rattle.passes.proofs.Bearers.{found}
 use Rattle.passes.proofs.labels.find_bearers.Given as goal
 
 abbrev pub invariant-loop-i : goal.invariant-loop-i
-invariant-loop-i l = (l.i ≤ rows_of l.list) × (length l.firsts ≡ length l.initial.firsts) × (l.firsts ≡ found l.list l.i)
-
-abbrev pub decreases-loop-i : goal.decreases-loop-i
-decreases-loop-i l = l.i
+invariant-loop-i l = (l.i ≤ rows_of l.list) × (l.firsts ≡ found l.list l.i)

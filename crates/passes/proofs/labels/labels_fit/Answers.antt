@@ -1,13 +1,17 @@
--- `passes::labels::labels_fit` meets its contract. The loop's invariant: those passed fit and those left do, exactly where all do.
+-- `passes::labels::labels_fit` meets its contract: the closure computes the definition's test.
 -- Assumes nothing.
-use mathlib.Core.Path.{◌∙◌}
-use Rattle.passes.proofs.Fitting.{fit_more, fit_end}
+use native.Mathlib.Omega.{arith}
+use mathlib.Core.Path.{refl}
+use borrow.Author.Rules.{rules}
+use borrow.Author.Tests.{tests}
+use Rattle.std.proofs.lemmas.Iterator.{YieldsList-from_range}
+use Rattle.std.proofs.lemmas.Iterator.Search.{all_from_yields_List}
+use Rattle.passes.specs.Labels.{label_fits, labels_fit}
 use Rattle.passes.proofs.labels.labels_fit.Goals as goal
 
-pub loop-left-preserved : goal.loop-left-preserved
-loop-left-preserved c =
-    let loop = c.loop-left in
-    fit_more _ _ loop.left loop.fit _ c.loop-left-test.true c.label_fits-fit.ensures ∙ loop.invariant
-
 pub returns : goal.returns
-returns c = fit_end _ _ c.loop-left.left _ _ c.loop-left-test.false c.loop-left.invariant
+unfolding labels_fit
+returns c =
+    all_from_yields_List (label_fits c.args.list.now c.args.cells) _ _ _ c.all.ensures.ran
+    (YieldsList-from_range 0 c.args.n c.args.n refl (omega arith))
+    (λ x b q k. search (rules, tests))

@@ -1,14 +1,18 @@
--- `postbytes::lists::among` meets its contract. There are no more than eight registers to be taken.
+-- `postbytes::lists::among` meets its contract.
 -- Assumes nothing.
-use mathlib.Core.Path.{sym, ap, ◌∙◌}
+use mathlib.Core.Path.{ap, ◌∙◌}
 use native.Mathlib.Omega.{arith}
-use lib.Seq.{take_all}
-use Rattle.postbytes.specs.Lists.{among}
+use lib.ListN.{take}
+use Rattle.std.proofs.Common.{rules, tests}
+use Rattle.std.proofs.lemmas.Iterator.{YieldsList-from_slice}
+use Rattle.std.proofs.lemmas.Iterator.Search.{any_from_yields_List}
+use Rattle.postbytes.specs.Lists.{covers, among}
+use Rattle.postbytes.proofs.Named.{eight}
 use Rattle.postbytes.proofs.lists.among.Goals as goal
 
-pub returns-then-count-gt8 : goal.returns-then-count-gt8
-returns-then-count-gt8 c =
-    let l = c.args.registers in
-    c.among_few.ensures
-    ∙ ap (among c.args.register)
-    (take_all 8 l (omega arith) ∙ sym (take_all c.args.count l (omega arith)))
+pub returns : goal.returns
+unfolding among
+returns c =
+    let a = c.args in
+    any_from_yields_List (covers a.register) _ _ c.any.result c.any.ensures.ran (YieldsList-from_slice (take c.min.result a.registers) cc) (λ x b q k. search (rules, tests))
+    ∙ ap (among a.register) (eight c.min.result a.count a.registers (omega arith) (omega arith))

@@ -22,7 +22,7 @@ turn :
 turn own set i byte m same inv h e = box_added (λ rs. ticks_of_set rs set) own i byte same inv (moved_bit set) (λ r rs. refl) m h e
 
 pub loop-i-init : goal.loop-i-init
-loop-i-init c = (omega arith, zero-add _)
+loop-i-init c = zero-add _
 
 pub moved-byte-requires : goal.moved-byte-requires
 moved-byte-requires c =
@@ -32,24 +32,24 @@ moved-byte-requires c =
 pub overflow_add-byte : goal.overflow_add-byte
 overflow_add-byte c =
     let a = c.args in
-    let t = turn a.own a.set c.loop-i.i c.loop-i.byte c.moved-byte.result c.boxes-row.ensures c.loop-i.invariant.1 (omega arith) c.moved-byte.ensures in
+    let t = turn a.own a.set c.loop-i.i c.loop-i.byte c.moved-byte.result c.boxes-row.ensures c.loop-i.invariant (omega arith) c.moved-byte.ensures in
     omega (arith, t.0, set_ticks_small a.own a.set)
 
 pub loop-i-preserved : goal.loop-i-preserved
 loop-i-preserved c =
     let a = c.args in
-    let t = turn a.own a.set c.loop-i.i c.loop-i.byte c.moved-byte.result c.boxes-row.ensures c.loop-i.invariant.1 (omega arith) c.moved-byte.ensures in
-    (omega arith, t.1)
+    let t = turn a.own a.set c.loop-i.i c.loop-i.byte c.moved-byte.result c.boxes-row.ensures c.loop-i.invariant (omega arith) c.moved-byte.ensures in
+    t.1
 
 pub overflow_cast-result : goal.overflow_cast-result
 overflow_cast-result c =
     let a = c.args in
     let e : c.loop-i.byte ≡ ticks_of_set (boxes a.own) a.set =
-    boxes_ended (λ rs. ticks_of_set rs a.set) a.own c.loop-i.i c.loop-i.byte c.boxes-row.ensures c.loop-i.invariant.1 refl (omega arith)
+    boxes_ended (λ rs. ticks_of_set rs a.set) a.own c.loop-i.i c.loop-i.byte c.boxes-row.ensures c.loop-i.invariant refl (omega arith)
     in
     omega (arith, e, set_ticks_small a.own a.set)
 
 pub returns : goal.returns
 returns c =
     let a = c.args in
-    boxes_ended (λ rs. ticks_of_set rs a.set) a.own c.loop-i.i c.loop-i.byte c.boxes-row.ensures c.loop-i.invariant.1 refl (omega arith)
+    boxes_ended (λ rs. ticks_of_set rs a.set) a.own c.loop-i.i c.loop-i.byte c.boxes-row.ensures c.loop-i.invariant refl (omega arith)

@@ -22,7 +22,7 @@ turn :
 turn own byte i set m same inv h e = box_added (λ rs. ticked rs byte) own i set same inv (λ r n. moved_bit byte n r) (λ r rs. refl) m h e
 
 pub loop-i-init : goal.loop-i-init
-loop-i-init c = (omega arith, zero-add _)
+loop-i-init c = zero-add _
 
 pub moved-set-requires : goal.moved-set-requires
 moved-set-requires c =
@@ -32,17 +32,17 @@ moved-set-requires c =
 pub overflow_add-set : goal.overflow_add-set
 overflow_add-set c =
     let a = c.args in
-    let t = turn a.own a.byte c.loop-i.i c.loop-i.set c.moved-set.result c.boxes-row.ensures c.loop-i.invariant.1 (omega arith) c.moved-set.ensures in
+    let t = turn a.own a.byte c.loop-i.i c.loop-i.set c.moved-set.result c.boxes-row.ensures c.loop-i.invariant (omega arith) c.moved-set.ensures in
     omega (arith, t.0, ticked_small a.own a.byte)
 
 pub loop-i-preserved : goal.loop-i-preserved
 loop-i-preserved c =
     let a = c.args in
-    let t = turn a.own a.byte c.loop-i.i c.loop-i.set c.moved-set.result c.boxes-row.ensures c.loop-i.invariant.1 (omega arith) c.moved-set.ensures in
-    (omega arith, t.1)
+    let t = turn a.own a.byte c.loop-i.i c.loop-i.set c.moved-set.result c.boxes-row.ensures c.loop-i.invariant (omega arith) c.moved-set.ensures in
+    t.1
 
 pub returns : goal.returns
 unfolding registers_of
 returns c =
     let a = c.args in
-    boxes_ended (λ rs. ticked rs a.byte) a.own c.loop-i.i c.loop-i.set c.boxes-row.ensures c.loop-i.invariant.1 refl (omega arith)
+    boxes_ended (λ rs. ticked rs a.byte) a.own c.loop-i.i c.loop-i.set c.boxes-row.ensures c.loop-i.invariant refl (omega arith)

@@ -8,9 +8,9 @@ use Rattle.reader.proofs.Stretches.{Going}
 use Rattle.records.proofs.Joins.{after}
 use Rattle.reader.proofs.runs.follow_on.Given as goal
 
-abbrev pub invariant-loop-address : goal.invariant-loop-address
-invariant-loop-address l =
+abbrev pub invariant-loop-line : goal.invariant-loop-line
+invariant-loop-line l =
     ((p : Rec) → after p ≡ l.reached → Going l.text l.from p l.end l.at) × (l.at ≤ length l.text) × (l.reached ≤ l.end)
 
-abbrev pub decreases-loop-address : goal.decreases-loop-address
-decreases-loop-address l = length l.text - l.at
+abbrev pub decreases-loop-line : goal.decreases-loop-line
+decreases-loop-line l = length l.text - l.at

@@ -1,6 +1,5 @@
 -- `reader::runs::run_from` meets its contract: 18 where the run goes beyond 65535.
 -- Assumes nothing.
-use mathlib.Core.Path.{◌∙◌}
 use native.Mathlib.Omega.{arith}
 use Rattle.reader.proofs.Stretches.{far_run, near_run}
 use Rattle.reader.proofs.runs.run_from.Goals as goal
@@ -9,7 +8,7 @@ pub returns-then-run-gt65536 : goal.returns-then-run-gt65536
 returns-then-run-gt65536 c =
     let f = c.follow_on-run in
     record {
-      each = λ p a n. c.refuse_run.ensures ∙ far_run _ _ _ p _ (f.ensures.each p (omega (arith, a, n))) a c.if-run-gt65536.true;
+      each = λ p a n. far_run _ _ _ p _ (f.ensures.each p (omega (arith, a, n))) a c.if-run-gt65536.true;
     }
 
 pub returns : goal.returns

@@ -5,8 +5,8 @@ use lib.ListN.{length}
 use Rattle.reader.proofs.Stretches.{Filling}
 use Rattle.reader.proofs.runs.store_run.Given as goal
 
-abbrev pub invariant-loop-address : goal.invariant-loop-address
-invariant-loop-address l = Filling l.text l.from l.first l.initial.bytes l.end l.at l.bytes
+abbrev pub invariant-loop-line : goal.invariant-loop-line
+invariant-loop-line l = Filling l.text l.from l.first l.initial.bytes l.end l.at l.bytes
 
-abbrev pub decreases-loop-address : goal.decreases-loop-address
-decreases-loop-address l = length l.text - l.at
+abbrev pub decreases-loop-line : goal.decreases-loop-line
+decreases-loop-line l = length l.text - l.at

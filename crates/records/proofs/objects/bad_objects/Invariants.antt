@@ -1,13 +1,12 @@
--- `records::objects::bad_objects` meets its contract. The loop's invariant: what is left is bad exactly if the whole is.
+-- What is left is bad exactly if the whole is.
 -- Assumes nothing.
 use mathlib.Core.Path.{◌≡◌}
-use Prim.Native.Nat.{◌-◌, ◌≤◌}
-use lib.ListN.{length, drop}
+use lib.ListN.{length}
 use Rattle.records.specs.Objects.{bad_objects}
 use Rattle.records.proofs.objects.bad_objects.Given as goal
 
-abbrev pub invariant-loop-i : goal.invariant-loop-i
-invariant-loop-i l = (bad_objects l.left (drop l.i l.objects) ≡ bad_objects l.values l.objects) × (l.i ≤ length l.objects)
+abbrev pub invariant-loop-objects : goal.invariant-loop-objects
+invariant-loop-objects l = bad_objects l.left l.objects ≡ bad_objects l.values l.fn.objects
 
-abbrev pub decreases-loop-i : goal.decreases-loop-i
-decreases-loop-i l = length l.objects - l.i
+abbrev pub decreases-loop-objects : goal.decreases-loop-objects
+decreases-loop-objects l = length l.objects

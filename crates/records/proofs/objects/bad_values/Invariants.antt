@@ -1,13 +1,12 @@
--- `records::objects::bad_values` meets its contract. The loop's invariant: what is left is bad exactly if the whole is.
+-- What is left is bad exactly if the whole is.
 -- Assumes nothing.
 use mathlib.Core.Path.{◌≡◌}
-use Prim.Native.Nat.{◌-◌, ◌≤◌}
-use lib.ListN.{length, drop}
+use lib.ListN.{length}
 use Rattle.records.specs.Objects.{bad_values}
 use Rattle.records.proofs.objects.bad_values.Given as goal
 
-abbrev pub invariant-loop-k : goal.invariant-loop-k
-invariant-loop-k l = (bad_values (drop l.k l.values) ≡ bad_values l.values) × (l.k ≤ length l.values)
+abbrev pub invariant-loop-values : goal.invariant-loop-values
+invariant-loop-values l = bad_values l.values ≡ bad_values l.fn.values
 
-abbrev pub decreases-loop-k : goal.decreases-loop-k
-decreases-loop-k l = length l.values - l.k
+abbrev pub decreases-loop-values : goal.decreases-loop-values
+decreases-loop-values l = length l.values

@@ -10,7 +10,7 @@ pub loop-i-preserved : goal.loop-i-preserved
 loop-i-preserved c =
     let l = c.loop-i in
     storing_more _ _ _ _ l.invariant _ _ c.loop-i-test.true
-    c.store_cell.ensures c.store_cell-in-loop-i.ensures
+    c.store.ensures c.store-in-loop-i.ensures
 
 pub shape_of-values : goal.shape_of-values
 shape_of-values c = c.loop-i.invariant.size

@@ -1,12 +1,7 @@
--- `roundtrip::writing::store_values` meets its contract: what is left of the bytes, stored after those that are, is the whole.
+-- What is left of the bytes, stored after those that are, is the whole.
 -- Assumes nothing.
-use Prim.Native.Nat.{◌-◌}
-use lib.ListN.{length}
 use Rattle.roundtrip.proofs.Values.{Storing}
 use Rattle.roundtrip.proofs.writing.store_values.Given as goal
 
 abbrev pub invariant-loop-i : goal.invariant-loop-i
 invariant-loop-i l = Storing l.bytes l.initial.values l.values l.i
-
-abbrev pub decreases-loop-i : goal.decreases-loop-i
-decreases-loop-i l = length l.bytes - l.i

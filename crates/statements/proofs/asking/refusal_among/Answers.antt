@@ -4,30 +4,30 @@ use mathlib.Core.Path.{◌≡◌, sym, ap, ◌∙◌}
 use mathlib.Core.List.{List}
 use Prim.Native.Nat.{ℕ}
 use native.Mathlib.Omega.{arith}
-use Rattle.expressions.specs.declared.Answer.{Answer}
+use Rattle.std.specs.Prelude.{Result}
+use Rattle.ground.specs.declared.refusals.Refusal.{Refusal}
+use Rattle.values.specs.declared.Value.{Value}
 use Rattle.statements.specs.Order.{earliest}
 use Rattle.statements.specs.Asking.{refusals_in}
 use Rattle.statements.proofs.Turns as turns
 use Rattle.statements.proofs.asking.refusal_among.Goals as goal
 
-pub loop-left-init : goal.loop-left-init
-loop-left-init c =
+pub loop-k-init : goal.loop-k-init
+loop-k-init c =
     let a = c.args in
-    (omega arith, sym (ap (λ (l : List Answer). earliest (refusals_in l)) (turns.left_none a.kind a.items.now a.nodes.now a.labels.now a.here a.first a.count a.count (omega arith))))
+    sym (ap (λ (l : List (Result Value Refusal)). earliest (refusals_in l)) (turns.left_none a.kind a.items.now a.nodes.now a.labels.now a.here a.first a.count a.count (omega arith)))
 
-pub loop-left-preserved : goal.loop-left-preserved
-loop-left-preserved c =
+pub loop-k-preserved : goal.loop-k-preserved
+loop-k-preserved c =
     let a = c.args in
-    let l = c.loop-left in (
-      omega arith,
-      turns.refusal_turn a.kind a.items.now a.nodes.now a.labels.now a.here a.first a.count l.left c.loop-left-test.true l.invariant.0
-          l.invariant.1 c.item-number.ensures c.datum-answer.ensures c.earlier-why.ensures,
-    )
+    let l = c.loop-k in
+    turns.refusal_turn a.kind a.items.now a.nodes.now a.labels.now a.here a.first a.count l.k c.loop-k-test.true l.auto.k
+    l.invariant c.item-number.ensures c.datum-answer.ensures (rw c.err.ensures.value at c.earlier-why.ensures)
 
 pub returns : goal.returns
 returns c =
     let a = c.args in
-    let l = c.loop-left in
-    let k : l.left ≡ 0 = omega arith in
-    l.invariant.1 ∙ ap (λ (n : ℕ). earliest (refusals_in (turns.left a.kind a.items.now a.nodes.now a.labels.now a.here a.first a.count n))) k
-    ∙ ap (λ (x : List Answer). earliest (refusals_in x)) (turns.left_all a.kind a.items.now a.nodes.now a.labels.now a.here a.first a.count)
+    let l = c.loop-k in
+    let k : l.k ≡ 0 = omega arith in
+    l.invariant ∙ ap (λ (n : ℕ). earliest (refusals_in (turns.left a.kind a.items.now a.nodes.now a.labels.now a.here a.first a.count n))) k
+    ∙ ap (λ (x : List (Result Value Refusal)). earliest (refusals_in x)) (turns.left_all a.kind a.items.now a.nodes.now a.labels.now a.here a.first a.count)

@@ -1,6 +1,6 @@
 -- `statements::objects::store_bytes` meets its contract: what is left, stored after what is stored, is the whole.
 -- Assumes nothing.
-use mathlib.Core.Path.{refl, sym, ap, ◌∙◌}
+use mathlib.Core.Path.{sym, ap, ◌∙◌}
 use Prim.Native.Nat.{◌+◌, ◌*◌}
 use native.Mathlib.Nat.{add-zero}
 use native.Mathlib.Omega.{arith}
@@ -11,25 +11,18 @@ use Rattle.statements.proofs.Turns.{row_turn, bytes_next, bytes_none}
 use Rattle.statements.proofs.objects.store_bytes.Goals as goal
 
 pub loop-k-init : goal.loop-k-init
-loop-k-init c =
-    let a = c.args in
-    (omega arith, rw (add-zero a.place), refl)
+loop-k-init c = rw (add-zero c.args.place)
 
 pub loop-k-preserved : goal.loop-k-preserved
 loop-k-preserved c =
     let a = c.args in
     let l = c.loop-k in
-    let turn = row_turn l.values (get_or a.bytes l.k 0) 8 a.place l.k (byte_rows (drop (l.k + 1) (take a.count a.bytes))) c.store_row.ensures in (
-      omega arith,
-      turn.0 ∙ sym (ap (put l.values (a.place + 2 * l.k)) (bytes_next a.bytes a.count l.k (omega arith) (omega arith))) ∙ l.invariant.1,
-      turn.1 ∙ l.invariant.2,
-    )
-
-pub shape_of-values : goal.shape_of-values
-shape_of-values c = c.loop-k.invariant.2
+    row_turn l.values (get_or a.bytes l.k 0) 8 a.place l.k (byte_rows (drop (l.k + 1) (take a.count a.bytes))) c.store_row.ensures
+    ∙ sym (ap (put l.values (a.place + 2 * l.k)) (bytes_next a.bytes a.count l.k (omega arith) (omega arith)))
+    ∙ l.invariant
 
 pub returns : goal.returns
 returns c =
     let a = c.args in
     let l = c.loop-k in
-    sym (ap (put l.values (a.place + 2 * l.k)) (bytes_none a.bytes a.count l.k (omega arith))) ∙ l.invariant.1
+    sym (ap (put l.values (a.place + 2 * l.k)) (bytes_none a.bytes a.count l.k (omega arith))) ∙ l.invariant

@@ -9,16 +9,12 @@ use Rattle.why.proofs.reasons.code_bytes.Goals as goal
 
 pub returns-then-page-eq0 : goal.returns-then-page-eq0
 unfolding code_bytes code_size pick
-returns-then-page-eq0 c = record { is = rw (← c.code_of-coded.ensures, c.in-Code.is, eq-eqb _ _ c.if-page-eq0.true); most = omega arith }
+returns-then-page-eq0 c = record { is = rw (← c.code_of-coded.ensures, c.in-Ok.is, eq-eqb _ _ c.if-page-eq0.true); most = omega arith }
 
 pub returns-else-page-eq0 : goal.returns-else-page-eq0
 unfolding code_bytes code_size pick
-returns-else-page-eq0 c = record { is = rw (← c.code_of-coded.ensures, c.in-Code.is, ne_eqb _ _ c.if-page-eq0.false); most = omega arith }
+returns-else-page-eq0 c = record { is = rw (← c.code_of-coded.ensures, c.in-Ok.is, ne_eqb _ _ c.if-page-eq0.false); most = omega arith }
 
-pub returns-in-Unknown : goal.returns-in-Unknown
+pub returns-in-Err : goal.returns-in-Err
 unfolding code_bytes
-returns-in-Unknown c = record { is = rw (← c.code_of-coded.ensures, c.in-Unknown.is); most = omega arith }
-
-pub returns-in-Missing : goal.returns-in-Missing
-unfolding code_bytes
-returns-in-Missing c = record { is = rw (← c.code_of-coded.ensures, c.in-Missing.is); most = omega arith }
+returns-in-Err c = record { is = rw (← c.code_of-coded.ensures, c.in-Err.is); most = omega arith }
