@@ -130,10 +130,15 @@ for name, number in crate.items():
 for name, number in numbered("Meaning kinds").items():
     if name != "none" and numbers.get("JW_KIND_" + name.upper()) != number:
         differing.append(f"JW_KIND_{name.upper()}: not {number}")
-refusals = dict(re.findall(r"pub const (\w+): u8 = (\d+);", read("crates/ground/src/refusals.rt")))
-for name, number in refusals.items():
-    if numbers.get("JW_" + name) != int(number):
-        differing.append(f"JW_{name}: {numbers.get('JW_' + name)} in the header, {number} in the source")
+variants = re.search(r"pub enum Refusal \{(.*?)\}", read("crates/ground/src/refusals.rt"), re.S).group(1)
+first, *later = [line.strip(" ,") for line in variants.split("\n") if line.strip()]
+if not first.endswith(" = 1") or any(not name.isalpha() for name in later):
+    differing.append("the refusals of the source are not numbered from 1 on")
+refusals = {"ACCEPTED": 0} | {shouted(name): n for n, name in enumerate([first.split()[0], *later], 1)}
+header_refusals = {name: int(n) for name, n in re.findall(r"JW_(\w+) = (\d+)", re.search(r"enum jw_refusal \{(.*?)\};", header, re.S).group(1))}
+for name in refusals | header_refusals:
+    if refusals.get(name) != header_refusals.get(name):
+        differing.append(f"JW_{name}: {header_refusals.get(name)} in the header, {refusals.get(name)} in the source")
 
 for line in differing:
     print(line)

@@ -7,7 +7,7 @@ use mathlib.Core.List.{List, [], ◌∷◌, ◌++◌, map}
 use Prim.Native.Nat.{ℕ}
 use lib.Dec.{eqb}
 use lib.ListN.{get_or}
-use Rattle.std.specs.Prelude.{Result, Ok, Err}
+use Rattle.std.specs.Prelude.{Option, Some, None, Result, Ok, Err}
 use Rattle.ground.specs.Choice.{pick}
 use Rattle.ground.specs.declared.refusals.Refusal.{Refusal}
 use Rattle.ground.specs.declared.refusals.Refusal.TheVariants.{Undefined, CutShort, Beyond}
@@ -163,21 +163,22 @@ unfolding decode_of run_of counted_of next_of run_from front_of coded_of joined 
 cases = refl
 
 -- ---- a kind from its number and values
-abbrev kind_of : Parts → Kind
+abbrev kind_of : Parts → Option Kind
 kind_of p =
-    pick (eqb p.kind 1) Inherent
-    (pick (eqb p.kind 2) (Immediate p.number)
-    (pick (eqb p.kind 3) (Memory p.number)
-    (pick (eqb p.kind 4) (Branch p.number)
-    (pick (eqb p.kind 5) (Push p.registers)
-    (pick (eqb p.kind 6) (Pair p.first p.second)
-    (pick (eqb p.kind 7) (Offset p.first p.indirect p.number)
-    (pick (eqb p.kind 8) (Counter p.indirect p.number)
-    (pick (eqb p.kind 9) (Accumulator p.first p.indirect p.second)
-    (pick (eqb p.kind 10) (Step p.first p.indirect p.step)
-    (Address p.number))))))))))
+    pick (eqb p.kind 1) (Some Inherent)
+    (pick (eqb p.kind 2) (Some (Immediate p.number))
+    (pick (eqb p.kind 3) (Some (Memory p.number))
+    (pick (eqb p.kind 4) (Some (Branch p.number))
+    (pick (eqb p.kind 5) (Some (Push p.registers))
+    (pick (eqb p.kind 6) (Some (Pair p.first p.second))
+    (pick (eqb p.kind 7) (Some (Offset p.first p.indirect p.number))
+    (pick (eqb p.kind 8) (Some (Counter p.indirect p.number))
+    (pick (eqb p.kind 9) (Some (Accumulator p.first p.indirect p.second))
+    (pick (eqb p.kind 10) (Some (Step p.first p.indirect p.step))
+    (pick (eqb p.kind 11) (Some (Address p.number))
+    None))))))))))
 
-pub parts_tell : (k : Kind) → kind_of (parts_of k) ≡ k
+pub parts_tell : (k : Kind) → kind_of (parts_of k) ≡ Some k
 unfolding pick
 parts_tell Inherent = refl
 parts_tell (Immediate n) = refl

@@ -44,7 +44,7 @@ use Rattle.instruction.specs.Building.{accepted_of, fresh_of, bytes_in, instruct
 use Rattle.instruction.proofs.Fits.{unwraps, ArgumentFits, Fits, Early, unsigned_word, Builds, build_chosen}
 use Rattle.instruction.specs.Forms.{form_of}
 use Rattle.instruction.proofs.Results.{of_ok}
-use Rattle.instruction.proofs.Ready.{fresh_built}
+use Rattle.instruction.proofs.Ready.{fresh_tried}
 
 -- ---- the address of an extended indirect operand
 abbrev Addressed : Argument → Type 0
@@ -172,7 +172,7 @@ build_bytes i v page address = go (tried_of i v page address) (build_chosen i v 
     go (Err n) k = tt
 
 fresh_all : (r : Record) (address : ℕ) → IfOk (fresh_of r address) AllBytes
-fresh_all r address = rw (fresh_built r address) (build_bytes (instruction_of r.operand (form_of r.operand r.values r.page)) r.values r.page address)
+fresh_all r address = rw (fresh_tried r address) (build_bytes (instruction_of r.operand (form_of r.operand r.values r.page)) r.values r.page address)
 
 -- beside a refusal there is none
 pub fresh_bytes : (r : Record) (address : ℕ) → Bytes (bytes_told (fresh_of r address))

@@ -22,7 +22,7 @@ use Rattle.instruction.specs.Building.{instruction_of, early_of, accepted_of, fi
 use Rattle.instruction.specs.Sequences.{Present, built_with, kept_after, told_of, fresh_with, AsFresh}
 use Rattle.instruction.proofs.Results.{told_alike}
 use Rattle.instruction.proofs.Before.{lacks_alike}
-use Rattle.instruction.proofs.Ready.{fresh_built}
+use Rattle.instruction.proofs.Ready.{fresh_tried}
 use Rattle.instruction.proofs.Formed.{is_memory, Free, one_of_two}
 use Rattle.instruction.proofs.Kept.{plain, Kept, steady, free, long, anew, is_extended, one_of, chosen_anew, made_lasts}
 
@@ -58,7 +58,7 @@ module _ (o : Operand) (fr : Free o) (i : Instruction) (m : is_memory i.form ≡
 kept_fresh : (o : Operand) (i : Instruction) → Kept o i → i.widened ≡ false → (p : Present) → told_of (built_with i p) ≡ fresh_with o p
 unfolding build_of instruction_of
 kept_fresh o i k short p =
-    told_alike i (tried_of i p.values p.page p.address) ∙ go k ∙ sym (fresh_built (record { operand = o; page = p.page; values = p.values }) p.address)
+    told_alike i (tried_of i p.values p.page p.address) ∙ go k ∙ sym (fresh_tried (record { operand = o; page = p.page; values = p.values }) p.address)
   where
     v : Values
     v = p.values

@@ -38,7 +38,7 @@ use Rattle.instruction.specs.Bytes.{laid_at, laid_of}
 use Rattle.instruction.specs.Building.{instruction_of, make_of, early_of, dirties_of, accepted_of, finished_of, after, tried_of, handing, build_of}
 use Rattle.instruction.specs.Sequences.{Present, built_with, instruction_in, kept_after, fresh_with, OnlyShortWidens, NeverWidened, StaysLong, lengthened, long_kept, handing_back, LongAfter}
 use Rattle.instruction.proofs.Rows.{branch_size, branch_only, operation_small}
-use Rattle.instruction.proofs.Ready.{fresh_built}
+use Rattle.instruction.proofs.Ready.{fresh_tried}
 use Rattle.instruction.proofs.Fits.{Early, early_leaves}
 use Rattle.instruction.proofs.Choice.{not_strange, choice, address_choice}
 use Rattle.instruction.proofs.Formed.{branch_form}
@@ -164,7 +164,7 @@ module _ (o : Operand) (known : recognised o ≡ true) (b : MayWiden o) where
   long_made : (p : Present) → fresh_with (lengthened o) p ≡ tried_of fresh p.values p.page p.address
   unfolding instruction_of
   long_made p =
-      fresh_built (record { operand = lengthened o; page = p.page; values = p.values }) p.address
+      fresh_tried (record { operand = lengthened o; page = p.page; values = p.values }) p.address
       ∙ ap (λ (f : ℕ). tried_of (instruction_of (lengthened o) f) p.values p.page p.address) (long_formed p.values p.page)
       ∙ rw (eqb-true o.mode mode_extended b.branch.mode)
 

@@ -41,8 +41,8 @@ use Rattle.instruction.specs.Bytes.{nothing, number_bytes, operand_bytes, behind
 use Rattle.instruction.specs.Building.{early_of, accepted_of, finished_of, build_of, after, tried_of, fresh_of, instruction_of, bytes_told, size_told}
 use Rattle.instruction.specs.Forms.{form_of}
 use Rattle.instruction.specs.declared.Record.{Record}
-use Rattle.instruction.proofs.Ready.{fresh_built}
-use Rattle.instruction.proofs.Results.{of_ok, back}
+use Rattle.instruction.proofs.Ready.{fresh_tried}
+use Rattle.instruction.proofs.Results.{of_ok, handed_ok}
 
 -- no byte, one, two or three, and zeros after them
 pub data Padded : Encoded → Type 0 where
@@ -138,25 +138,28 @@ laid_five c address = from (code_of c.operation c.form)
     from (Ok k) = behind_five k.page k.code (operand_padded c.operation c.form c.argument _)
     from (Err r) = record { all = refl; most = omega arith; zeros = refl }
 
--- every accepted build
-pub build_five : (i : Instruction) (v : Values) (page : Page) (address : ℕ) → IfOk (tried_of i v page address) (λ b. Five b.bytes b.length)
+pub tried_five : (i : Instruction) (v : Values) (page : Page) (address : ℕ) → IfOk (tried_of i v page address) (λ b. Five b.bytes b.length)
 unfolding tried_of accepted_of
-build_five i v page address = go (early_of i v) (choose_of i v page address)
+tried_five i v page address = go (early_of i v) (choose_of i v page address)
   where
     go : (n : Result ⊤ Refusal) (c : Result Chosen Refusal) → IfOk (after n (finished_of i c address)) (λ b. Five b.bytes b.length)
     go (Ok passed) (Ok c) = laid_five c address
     go (Ok passed) (Err n) = tt
     go (Err n) c = tt
 
-pub built_within : (b : Built) (i : Instruction) (v : Values) (page : Page) (address : ℕ) → build_of i v page address ≡ Ok b → b.length ≤ length b.bytes
+-- every accepted build
+pub build_five : (i : Instruction) (v : Values) (page : Page) (address : ℕ) → IfOk (build_of i v page address) (λ b. Five b.bytes b.length)
 unfolding build_of
+build_five i v page address = handed_ok (λ b. Five b.bytes b.length) i (tried_of i v page address) (tried_five i v page address)
+
+pub built_within : (b : Built) (i : Instruction) (v : Values) (page : Page) (address : ℕ) → build_of i v page address ≡ Ok b → b.length ≤ length b.bytes
 built_within b i v page address e =
-    let f = of_ok (λ (x : Built). Five x.bytes x.length) (build_five i v page address) (back i (tried_of i v page address) e) in
+    let f = of_ok (λ (x : Built). Five x.bytes x.length) (build_five i v page address) e in
     omega (arith, f.all, f.most)
 
 -- every accepted fresh build, and so what is told of one that may be refused
 pub fresh_five : (r : Record) (address : ℕ) → IfOk (fresh_of r address) (λ b. Five b.bytes b.length)
-fresh_five r address = rw (fresh_built r address) (build_five (instruction_of r.operand (form_of r.operand r.values r.page)) r.values r.page address)
+fresh_five r address = rw (fresh_tried r address) (tried_five (instruction_of r.operand (form_of r.operand r.values r.page)) r.values r.page address)
 
 pub record Told (b : Result Built Refusal) : Type 0 where
   pub size : length (bytes_told b) ≡ size_told b

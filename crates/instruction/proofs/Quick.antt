@@ -7,6 +7,7 @@ use native.Mathlib.Omega.{arith}
 use lib.Dec.{eqb, ltb}
 use borrow.Author.Tests.{eqb-true, eqb-false, ltb-true, not-true}
 use Rattle.std.specs.Prelude.{Result, is_ok, Ok, Err, IfOk, ⊤}
+use Rattle.std.specs.Result.{result_map_both}
 use Rattle.ground.specs.Choice.{pick}
 use Rattle.ground.specs.declared.refusals.Refusal.{Refusal}
 use Rattle.ground.proofs.Tests.{both_first, both_second}
@@ -24,12 +25,14 @@ use Rattle.instruction.specs.declared.Instruction.{Instruction}
 use Rattle.instruction.specs.declared.Chosen.{Chosen}
 use Rattle.instruction.specs.declared.Laid.{Laid}
 use Rattle.instruction.specs.declared.Built.{Built}
+use Rattle.instruction.specs.declared.Refused.{Refused}
 use Rattle.instruction.specs.declared.Outcome.{Outcome}
 use Rattle.instruction.specs.Records.{recognised, lawful, sound}
 use Rattle.instruction.specs.Forms.{strays, lacks, needs_value}
 use Rattle.instruction.specs.Choosing.{long_branch, choose_of}
 use Rattle.instruction.specs.Bytes.{laid_at, laid_of}
-use Rattle.instruction.specs.Building.{early_of, dirties_of, accepted_of, finished_of, after, tried_of}
+use Rattle.instruction.specs.Building.{early_of, dirties_of, accepted_of, finished_of, after, tried_of, refused_with, handing, build_of}
+use Rattle.instruction.specs.Sequences.{told_of}
 use Rattle.instruction.specs.Quick.{regular, matched, misses, valued, fit, CodeTells, without_operand, outcome_of, with_outcome}
 use Rattle.instruction.proofs.Results.{of_ok}
 use Rattle.instruction.proofs.Rows.{direct_extended}
@@ -135,6 +138,40 @@ fit_early i v f h =
     let fits = fit_leaves i v f in
     rw (has_form_known i.operand.operation i.form h, fits.fields, fits.small, fits.right, h, fits.straight, fits.present)
 
+pub nothing_wrong : (i : Instruction) (v : Values) {fits found : Bool} → CodeTells i v found → fits ≡ fit i v → (fits && found) ≡ true → early_of i v ≡ Ok tt
+nothing_wrong i v {fits} {found} tells e h =
+    let f = sym e ∙ both_first fits found h in
+    fit_early i v f (tells f (both_second fits found h))
+
+-- ---- the first refusal, of 1, 2 and 3 and then of the choice, is the build's
+module _ (i : Instruction) (v : Values) (page : Page) (address : ℕ) where
+  pub none_first : (c : Chosen) → after (early_of i v) (choose_of i v page address) ≡ Ok c → build_of i v page address ≡ Ok (accepted_of i c address)
+  unfolding build_of tried_of
+  none_first c = go (early_of i v) (choose_of i v page address)
+    where
+      go :
+          (n : Result ⊤ Refusal) (k : Result Chosen Refusal) →
+          after n k ≡ Ok c →
+          handing i (after n (finished_of i k address)) ≡ Ok (accepted_of i c address)
+      go (Ok passed) (Ok k) e = let same : k ≡ c = cc in ap {B = Result Built Refused} (λ (x : Chosen). Ok (accepted_of i x address)) same
+      go (Ok passed) (Err n) e = absurd (cc)
+      go (Err n) k e = absurd (cc)
+
+  pub some_first : (n : Refusal) → after (early_of i v) (choose_of i v page address) ≡ Err n → build_of i v page address ≡ Err (refused_with i n)
+  unfolding build_of tried_of
+  some_first n = go (early_of i v) (choose_of i v page address)
+    where
+      refused : {A : Type 0} {m : Refusal} → ◌≡◌ {A = Result A Refusal} (Err m) (Err n) → ◌≡◌ {A = Result Built Refused} (Err (refused_with i m)) (Err (refused_with i n))
+      refused {A} {m} e = let same : m ≡ n = cc in ap {B = Result Built Refused} (λ (x : Refusal). Err (refused_with i x)) same
+
+      go :
+          (m : Result ⊤ Refusal) (k : Result Chosen Refusal) →
+          after m k ≡ Err n →
+          handing i (after m (finished_of i k address)) ≡ Err (refused_with i n)
+      go (Ok passed) (Ok k) e = absurd (cc)
+      go (Ok passed) (Err m) e = refused e
+      go (Err m) k e = refused e
+
 -- ---- what a build comes to
 pub accepted_outcome :
     (i : Instruction) (k : Chosen) (address : ℕ) {coded : Result Code Refusal} {laid : Laid} {dirties : Bool} →
@@ -180,3 +217,17 @@ refused_whole i v page address n = go (tried_of i v page address)
     go : (t : Result Built Refusal) → Err n ≡ outcome_of t → Err n ≡ t
     go (Ok b) e = absurd (cc)
     go (Err m) e = cc
+
+-- so that what is handed back loses nothing in what it comes to and the operand
+pub with_outcome_lem :
+    (i : Instruction) (v : Values) (page : Page) (address : ℕ) →
+    result_map_both (with_outcome i) (λ n. n) (outcome_of (told_of (build_of i v page address))) ≡ told_of (build_of i v page address)
+unfolding build_of Whole
+with_outcome_lem i v page address = go (tried_of i v page address) (with_whole i v page address)
+  where
+    go :
+        (t : Result Built Refusal) →
+        IfOk t (Whole i) →
+        result_map_both (with_outcome i) (λ n. n) (outcome_of (told_of (handing i t))) ≡ told_of (handing i t)
+    go (Ok b) w = ap {B = Result Built Refusal} Ok w
+    go (Err n) w = refl

@@ -21,8 +21,9 @@ use Rattle.instruction.specs.declared.Record.{Record}
 use Rattle.instruction.specs.declared.Instruction.{Instruction}
 use Rattle.instruction.specs.Records.{recognised, lawful, sound}
 use Rattle.instruction.specs.Forms.{extended_form, register_form, form_of, strays, lacks, needs_value}
-use Rattle.instruction.specs.Building.{instruction_of, made_as, make_of, early_of, tried_of, fresh_of}
-use Rattle.instruction.proofs.Results.{of_ok}
+use Rattle.instruction.specs.Building.{instruction_of, made_as, make_of, early_of, tried_of, build_of, fresh_of}
+use Rattle.instruction.specs.Sequences.{told_of}
+use Rattle.instruction.proofs.Results.{of_ok, told_alike}
 
 -- a form that is not lacking is one of seven
 pub lacking_none : (o : Operand) (form : ℕ) → lacks o form ≡ false → form < 7
@@ -81,9 +82,9 @@ early_tried : (i : Instruction) (v : Values) (page : Page) (address : ℕ) (n : 
 unfolding tried_of
 early_tried i v page address n e = rw e
 
-pub fresh_built : (r : Record) (address : ℕ) → fresh_of r address ≡ tried_of (instruction_of r.operand (form_of r.operand r.values r.page)) r.values r.page address
+pub fresh_tried : (r : Record) (address : ℕ) → fresh_of r address ≡ tried_of (instruction_of r.operand (form_of r.operand r.values r.page)) r.values r.page address
 unfolding fresh_of make_of made_as pick
-fresh_built r address = go (recognised o && lawful v) refl (lacks o form) refl
+fresh_tried r address = go (recognised o && lawful v) refl (lacks o form) refl
   where
     o : Operand
     o = r.operand
@@ -100,3 +101,12 @@ fresh_built r address = go (recognised o && lawful v) refl (lacks o form) refl
     go true p false q = rw (p, q)
     go true p true q = rw (p, q) (sym (early_tried (instruction_of o form) v r.page address NoSuchMode (early_made o v r.page ∙ rw (p, q))))
     go false p b q = rw p (sym (early_tried (instruction_of o form) v r.page address Unknown (early_made o v r.page ∙ rw p)))
+
+-- and that is what the instruction answers of which it is the build
+pub fresh_built :
+    (r : Record) (address : ℕ) →
+    fresh_of r address ≡ told_of (build_of (instruction_of r.operand (form_of r.operand r.values r.page)) r.values r.page address)
+unfolding build_of
+fresh_built r address =
+    let i = instruction_of r.operand (form_of r.operand r.values r.page) in
+    fresh_tried r address ∙ sym (told_alike i (tried_of i r.values r.page address))

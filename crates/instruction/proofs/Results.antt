@@ -22,3 +22,8 @@ told_alike i (Err n) = refl
 
 pub back : (i : Instruction) (x : Result Built Refusal) {y : Result Built Refused} → handing i x ≡ y → x ≡ told_of y
 back i x e = sym (told_alike i x) ∙ ap told_of e
+
+-- what holds of what a build came to, where it is accepted, holds of what is handed back
+pub handed_ok : (P : Built → Type 0) (i : Instruction) (x : Result Built Refusal) → IfOk x P → IfOk (handing i x) P
+handed_ok P i (Ok b) h = h
+handed_ok P i (Err n) h = tt

@@ -35,10 +35,10 @@ use Rattle.instruction.specs.declared.Laid.{Laid}
 use Rattle.instruction.specs.declared.Argument.{Argument}
 use Rattle.instruction.specs.declared.Argument.TheVariants.{Nothing, Number, Target, Indexed, Relative, Registers}
 use Rattle.instruction.specs.Bytes.{nothing, number_bytes, operand_bytes, code_size, behind_code, laid_at, laid_of}
-use Rattle.instruction.specs.Building.{accepted_of, tried_of}
+use Rattle.instruction.specs.Building.{accepted_of, tried_of, build_of}
 use Rattle.instruction.proofs.Padded.{build_five, Five}
 use Rattle.instruction.specs.declared.Built.{Built}
-use Rattle.instruction.proofs.Results.{of_ok}
+use Rattle.instruction.proofs.Results.{of_ok, back}
 use Rattle.instruction.proofs.Rows.{Has, has_code, number_at_lem, operation_small, short_page}
 use Rattle.instruction.proofs.Fits.{unwraps, ArgumentFits, Widens, Fits, build_chosen, Builds}
 
@@ -195,11 +195,11 @@ chosen_size operand page address c f = from f.operation
 -- from the row's smallest size to five
 pub size_between :
     (i : Instruction) (v : Values) (page : Page) (address : ℕ) (b : Built) →
-    tried_of i v page address ≡ Ok b →
+    build_of i v page address ≡ Ok b →
     (smallest_size_of i.operand.operation ≤ b.length) × (b.length ≤ 5)
-unfolding accepted_of
+unfolding accepted_of build_of
 size_between i v page address b e =
-    let k = of_ok (Builds i v page address) (build_chosen i v page address) e in (
+    let k = of_ok (Builds i v page address) (build_chosen i v page address) (back i (tried_of i v page address) e) in (
       rw k.built (chosen_size i.operand page address k.choice k.fits),
       (of_ok (λ (x : Built). Five x.bytes x.length) (build_five i v page address) e).most,
     )

@@ -330,7 +330,7 @@ pub fn build_into(
 
 // A fresh instruction, made and built from one record; beside a refusal nobody had one to hand back. What making refuses, the build refuses alike. It asks for the outcome
 // itself, and not through `build`: what two ask for stays a function of its own, and `build` is then small enough to be compiled into its callers.
-#[tactic(auto, using(crate::proofs::Ready::fresh_built, crate::proofs::Quick::accepted_whole, crate::proofs::Quick::refused_whole))]
+#[tactic(auto, using(crate::proofs::Ready::fresh_tried, crate::proofs::Quick::accepted_whole, crate::proofs::Quick::refused_whole))]
 pub fn assemble(r: Record, address: u16) -> Result<Built, Refusal>
     ensures { result ≡ fresh_of r address }
 {

@@ -36,13 +36,14 @@ use Rattle.instruction.specs.declared.Built.{Built}
 use Rattle.instruction.specs.Forms.{form_of}
 use Rattle.instruction.specs.Choosing.{choose_of}
 use Rattle.instruction.specs.Bytes.{operand_bytes, at, code_size, behind_code, laid_at, laid_of}
-use Rattle.instruction.specs.Building.{accepted_of, tried_of, instruction_of, fresh_of, bytes_in, told, bytes_told, size_told}
-use Rattle.instruction.proofs.Padded.{Padded, empty, single, double, triple, operand_padded, Five, build_five}
+use Rattle.instruction.specs.Building.{accepted_of, tried_of, handing, build_of, instruction_of, fresh_of, bytes_in, told, bytes_told, size_told}
+use Rattle.instruction.proofs.Padded.{Padded, empty, single, double, triple, operand_padded, Five, tried_five}
 use Rattle.instruction.proofs.Rows.{has_code, short_page}
 use Rattle.instruction.proofs.Fits.{Widens, Fits, Builds, build_chosen}
-use Rattle.instruction.proofs.Results.{of_ok}
+use Rattle.instruction.specs.Sequences.{instruction_in}
+use Rattle.instruction.proofs.Results.{of_ok, handed_ok}
 use Rattle.ground.proofs.Refused.{refused_number}
-use Rattle.instruction.proofs.Ready.{fresh_built}
+use Rattle.instruction.proofs.Ready.{fresh_tried}
 use Rattle.meanings.specs.Means.{kind_of, operation_of, meaning_of}
 use Rattle.meanings.specs.ReadBack.{read_as, read_told, ReadsBack, Decodes, Sized}
 use Rattle.meanings.proofs.Operands.{argument_kind, operand_back}
@@ -139,23 +140,19 @@ module _ (i : Instruction) (v : Values) (own : Page) (address : ℕ) where
       subst (λ (x : Built). front_of (bytes_in x ++ t) (origin address page) ≡ Ok (read_as v address x)) (sym k.built)
       (accepted_decodes i v own address k.choice k.chosen k.fits page met t)
 
-  pub built_decodes : (page : Page) → meets page own ≡ true → IfOk (tried_of i v own address) (ReadsBack page v address)
-  built_decodes page met = accepted (ReadsBack page v address) (reads page met)
+  pub tried_decodes : (page : Page) → meets page own ≡ true → IfOk (tried_of i v own address) (ReadsBack page v address)
+  tried_decodes page met = accepted (ReadsBack page v address) (reads page met)
 
-  pub built_decodes_there : (page : Page) → meets page own ≡ true → IfOk (tried_of i v own address) (Decodes page v address)
-  built_decodes_there page met = accepted (Decodes page v address) (λ b k. there page v address b (reads page met b k))
-
-  -- and so under the page it was built under, for every page
-  pub own_decodes : IfOk (tried_of i v own address) (ReadsBack own v address)
-  own_decodes = built_decodes own (meets_same own)
+  pub tried_there : (page : Page) → meets page own ≡ true → IfOk (tried_of i v own address) (Decodes page v address)
+  tried_there page met = accepted (Decodes page v address) (λ b k. there page v address b (reads page met b k))
 
   -- the meaning is that of the instruction's own operand, which a build hands back as it was
-  pub built_operand : IfOk (tried_of i v own address) (λ b. b.instruction.operand ≡ i.operand)
+  pub tried_operand : IfOk (tried_of i v own address) (λ b. b.instruction.operand ≡ i.operand)
   unfolding accepted_of
-  built_operand = accepted (λ (b : Built). b.instruction.operand ≡ i.operand) (λ b k. ap (λ (x : Built). x.instruction.operand) k.built)
+  tried_operand = accepted (λ (b : Built). b.instruction.operand ≡ i.operand) (λ b k. ap (λ (x : Built). x.instruction.operand) k.built)
 
-  pub built_sized : IfOk (tried_of i v own address) Sized
-  built_sized = go (tried_of i v own address) (build_five i v own address) own_decodes
+  pub tried_sized : IfOk (tried_of i v own address) Sized
+  tried_sized = go (tried_of i v own address) (tried_five i v own address) (tried_decodes own (meets_same own))
     where
       go : (t : Result Built Refusal) → IfOk t (λ b. Five b.bytes b.length) → IfOk t (ReadsBack own v address) → IfOk t Sized
       go (Ok b) five decodes =
@@ -169,27 +166,53 @@ module _ (i : Instruction) (v : Values) (own : Page) (address : ℕ) where
           }
       go (Err n) five decodes = tt
 
+  -- ---- as it is handed back
+  pub built_decodes : (page : Page) → meets page own ≡ true → IfOk (build_of i v own address) (ReadsBack page v address)
+  unfolding build_of
+  built_decodes page met = handed_ok (ReadsBack page v address) i (tried_of i v own address) (tried_decodes page met)
+
+  pub built_decodes_there : (page : Page) → meets page own ≡ true → IfOk (build_of i v own address) (Decodes page v address)
+  unfolding build_of
+  built_decodes_there page met = handed_ok (Decodes page v address) i (tried_of i v own address) (tried_there page met)
+
+  -- and so under the page it was built under, for every page
+  pub own_decodes : IfOk (build_of i v own address) (ReadsBack own v address)
+  own_decodes = built_decodes own (meets_same own)
+
+  pub built_sized : IfOk (build_of i v own address) Sized
+  unfolding build_of
+  built_sized = handed_ok Sized i (tried_of i v own address) tried_sized
+
+  -- the operand is handed back as it was, beside a refusal too
+  pub built_operand : (instruction_in (build_of i v own address)).operand ≡ i.operand
+  unfolding build_of
+  built_operand = go (tried_of i v own address) tried_operand
+    where
+      go : (t : Result Built Refusal) → IfOk t (λ b. b.instruction.operand ≡ i.operand) → (instruction_in (handing i t)).operand ≡ i.operand
+      go (Ok b) e = e
+      go (Err n) e = refl
+
 -- ---- every fresh build
 module _ (r : Record) (address : ℕ) where
   abbrev made : Instruction
   made = instruction_of r.operand (form_of r.operand r.values r.page)
 
   pub fresh_decodes : (page : Page) → meets page r.page ≡ true → IfOk (fresh_of r address) (ReadsBack page r.values address)
-  fresh_decodes page met = rw (fresh_built r address) (built_decodes made r.values r.page address page met)
+  fresh_decodes page met = rw (fresh_tried r address) (tried_decodes made r.values r.page address page met)
 
   pub fresh_decodes_there : (page : Page) → meets page r.page ≡ true → IfOk (fresh_of r address) (Decodes page r.values address)
-  fresh_decodes_there page met = rw (fresh_built r address) (built_decodes_there made r.values r.page address page met)
+  fresh_decodes_there page met = rw (fresh_tried r address) (tried_there made r.values r.page address page met)
 
   pub own_fresh_decodes : IfOk (fresh_of r address) (ReadsBack r.page r.values address)
   own_fresh_decodes = fresh_decodes r.page (meets_same r.page)
 
   pub fresh_sized : IfOk (fresh_of r address) Sized
-  fresh_sized = rw (fresh_built r address) (built_sized made r.values r.page address)
+  fresh_sized = rw (fresh_tried r address) (tried_sized made r.values r.page address)
 
   -- the meaning is that of the record's own operand
   pub fresh_operand : IfOk (fresh_of r address) (λ b. b.instruction.operand ≡ r.operand)
   unfolding instruction_of
-  fresh_operand = rw (fresh_built r address) (built_operand made r.values r.page address)
+  fresh_operand = rw (fresh_tried r address) (tried_operand made r.values r.page address)
 
 -- ---- the same of a fresh build as it is told, accepted or not
 module _ (r : Record) (address : ℕ) where

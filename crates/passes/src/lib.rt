@@ -87,13 +87,13 @@ pub fn settle_in(
     passes(list, items, nodes, &firsts, table, sizes)
 }
 
-// More statements, nodes or values in a statement than 01 allows.
+// More statements, nodes or values in a statement than 01 allows. A list that is too long is not walked.
 #[tactic(auto, unfolding(crate::specs::Passes::too_many))]
 pub fn too_many(list: &[u16], nodes: &[u16]) -> bool
     ensures { result ≡ too_many list.now nodes.now }
 {
     let rows = rows_of(list);
-    (MOST_STATEMENTS < rows) | (too_many_nodes(nodes) | any_overfull(list, rows))
+    MOST_STATEMENTS < rows || (too_many_nodes(nodes) || any_overfull(list, rows))
 }
 
 fn any_overfull(list: &[u16], rows: usize) -> bool

@@ -86,7 +86,7 @@ unfolding shape_of high_of direct_only address_only pick
 lengths = refl
 
 -- what a postbyte means with two bytes after it
-abbrev filled : ℕ → ℕ → Result Shape Refusal → Result Addressing Refusal
+abbrev pub filled : ℕ → ℕ → Result Shape Refusal → Result Addressing Refusal
 filled b c (Ok s) = Ok (fill_of s b c)
 filled b c (Err n) = Err n
 

@@ -6,7 +6,8 @@ use mathlib.Core.List.{List}
 use Prim.Native.Nat.{ℕ, ◌/◌, ◌%◌}
 use lib.Dec.{eqb, ltb}
 use lib.ListN.{get_or}
-use Rattle.std.specs.Prelude.{Option, Some, None, Result, IsOkUnless}
+use Rattle.std.specs.Prelude.{Option, Some, None, Result, Ok, Err, IsOkUnless}
+use Rattle.std.specs.Result.{result_err}
 use Rattle.ground.specs.Choice.{pick}
 use Rattle.ground.specs.declared.refusals.Refusal.{Refusal}
 use Rattle.ground.specs.declared.refusals.Refusal.TheVariants.{Undefined}
@@ -19,6 +20,7 @@ use Rattle.postbytes.specs.declared.Pair.{Pair}
 use Rattle.postbytes.specs.Lists.{size_of}
 use Rattle.postbytes.specs.Reading.{direct_only, address_only, high_of, shape_of, extra_of, fill_of, flag, values_of_shape, values_of_addressing}
 use Rattle.postbytes.specs.ListsRead.{coded, pair_is, pair_of, values_of_pair}
+use Rattle.postbytes.proofs.Counts.{filled}
 
 pub flag_told : (b : Bool) → eqb (flag b) 1 ≡ b
 flag_told true = refl
@@ -92,6 +94,11 @@ addressing_told (addressing.Counter ind n) = rw (flag_told ind)
 addressing_told (addressing.Accumulator r ind a) = rw (flag_told ind)
 addressing_told (addressing.Step r ind k) = rw (flag_told ind)
 addressing_told (addressing.Address a) = refl
+
+-- what fills a postbyte is refused exactly if the postbyte is
+pub filled_refused : (r : Result Shape Refusal) (b c : ℕ) → result_err (filled b c r) ≡ result_err r
+filled_refused (Ok s) b c = refl
+filled_refused (Err n) b c = refl
 
 -- the bytes after a postbyte do not change its kind
 pub filled_kind : (s : Shape) (b c : ℕ) → get_or (values_of_addressing (fill_of s b c)) 0 0 ≡ get_or (values_of_shape s) 0 0

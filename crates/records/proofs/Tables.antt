@@ -144,6 +144,23 @@ far_on os vs h a n o l s near =
     ∙ ap (λ (b : Bool). b || too_far (objects_of (take (length os - 3) (drop 3 os)) (drop (2 * count_of (get_or os 0 0) (get_or os 2 0)) vs)))
     (le-ltb 65536 _ (rw (s, o, n) at near)))
 
+-- and so does one that has no values
+pub record Skipped (os vs : List ℕ) : Type 0 where
+  pub same : too_far (objects_of os vs) ≡ too_far (objects_of (take (length os - 3) (drop 3 os)) vs)
+  pub good : bad_objects (length vs / 2) (take (length os - 3) (drop 3 os)) ≡ false
+
+pub skipped :
+    (os vs : List ℕ) →
+    3 ≤ length os →
+    get_or os 1 0 < 65536 →
+    0 ≡ count_of (get_or os 0 0) (get_or os 2 0) →
+    bad_objects (length vs / 2) os ≡ false →
+    Skipped os vs
+skipped os vs h a none good = record {
+  same = far_on {own = []} {later = vs} {n = 0} {size = 0} os vs h a none refl refl refl (omega arith);
+  good = rw (sym none) at (good_next os vs h good);
+}
+
 -- how many values the row has, by its kind
 pub count_with : (kind count : ℕ) → kind ≡ 1 → count ≡ count_of kind count
 unfolding count_of pick

@@ -90,13 +90,16 @@ pub(crate) fn is_too_far(mut objects: &[u16], mut values: &[u16]) -> bool
     ensures { result ≡ too_far (objects_of objects.now values.now) }
 {
     while let [kind, address, count, rest @ ..] = objects {
+        let first = *address as usize;
         let count = count_of(*kind, *count) as usize;
-        let (own, later) = values.split_at(2 * count);
-        if 65536 < *address as usize + size_of(own) {
-            return true;
+        if 0 < count {
+            let (own, later) = values.split_at(2 * count);
+            if 65536 < first + size_of(own) {
+                return true;
+            }
+            values = later;
         }
         objects = rest;
-        values = later;
     }
     false
 }

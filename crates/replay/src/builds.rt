@@ -3,7 +3,7 @@
 // difference and what the Rust answers; without it the answer is the Rust's own, or the rules' where the Rust is asked no further, after a refusal.
 ghost use Rattle.std.specs.Prelude.{◌<◌};
 
-use crate::lines::{four, has, one, two};
+use crate::lines::{four, has, number_in, one, two};
 use crate::state::State;
 use ground::refusals::Refusal;
 use ground::tables::cell_or;
@@ -92,10 +92,12 @@ fn form_digit(form: u8, dirties: bool) -> u16 {
 pub(crate) fn differs(built: Result<Built, Refusal>, line: &[u8], at: usize) -> bool
     requires { at < 16 }
 {
-    let refused = cell_or(line, at, 0) == b'-';
+    if cell_or(line, at, 0) == b'-' {
+        return number_in(built.err()) != one(line, at + 1);
+    }
     match built {
-        Ok(b) => refused | differing(b, line, at),
-        Err(n) => !(refused & (n.number() == one(line, at + 1))),
+        Ok(b) => differing(b, line, at),
+        Err(_) => true,
     }
 }
 

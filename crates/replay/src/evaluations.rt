@@ -1,9 +1,9 @@
 // Expressions by hand, a piece a line: `z` begins anew, `n` and `l` are rows of the two tables, `?` NODE LOCATION and the two values, each a number and 1
-// where it is wide, or `-` and a refusal, asks a node; `>` names an operand, and `e` builds it with the last values that were answered.
+// where it is wide, or `-` and a refusal, asks a node; `>` names an operand, and `e` builds it with the values of the last question.
 ghost use Rattle.std.specs.Prelude.{◌<◌};
 
 use crate::builds;
-use crate::lines::{four, has, one};
+use crate::lines::{four, has, number_in, one};
 use crate::state::State;
 use crate::tables::{store_row, used};
 use expressions::Evaluated;
@@ -35,14 +35,33 @@ fn is_value(v: Value, line: &[u8], at: usize) -> bool
 }
 
 fn differs(found: Result<Evaluated, Refusal>, line: &[u8]) -> bool {
-    let refused = cell_or(line, 9, 0) == b'-';
+    if cell_or(line, 9, 0) == b'-' {
+        return number_in(found.err()) != one(line, 10);
+    }
     match found {
         Ok(both) => {
             let unsigned = both.unsigned;
             let signed = both.signed;
-            refused | !(is_value(unsigned, line, 9) & is_value(signed, line, 14))
+            !(is_value(unsigned, line, 9) & is_value(signed, line, 14))
         }
-        Err(why) => !refused | (why.number() != one(line, 10)),
+        Err(_) => true,
+    }
+}
+
+// What a build takes of a question. A refused one has no values: 0 of no width, which every build refuses.
+fn asked(found: Result<Evaluated, Refusal>) -> Values {
+    let none = Value {
+        number: 0,
+        width: 0,
+    };
+    let both = found.unwrap_or(Evaluated {
+        unsigned: none,
+        signed: none,
+    });
+    Values {
+        given: true,
+        unsigned: both.unsigned,
+        signed: both.signed,
     }
 }
 
@@ -55,16 +74,7 @@ fn ask(mut s: State, line: &[u8], nodes: &[u16], labels: &[u16]) -> State {
         four(line, 1),
         four(line, 5),
     );
-    if let Ok(both) = found {
-        let unsigned = both.unsigned;
-        let signed = both.signed;
-        let values = Values {
-            given: true,
-            unsigned,
-            signed,
-        };
-        s.values = values;
-    }
+    s.values = asked(found);
     s.compared(differs(found, line))
 }
 

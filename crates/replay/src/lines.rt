@@ -1,6 +1,7 @@
 // Lines of text, and numbers in hexadecimal in them. What is no digit counts as 0.
 ghost use Rattle.std.specs.Prelude.{◌<◌};
 
+use ground::refusals::Refusal;
 use ground::tables::cell_or;
 use reader::digit;
 
@@ -30,4 +31,12 @@ pub(crate) fn four(line: &[u8], at: usize) -> u16
 // Bit n of a number of one digit.
 pub(crate) fn has(line: &[u8], at: usize, bit: u8) -> bool {
     one(line, at) & bit == bit
+}
+
+// A refusal as a line has it: its number, 0 for none.
+pub(crate) fn number_in(refusal: Option<Refusal>) -> u8 {
+    match refusal {
+        None => 0,
+        Some(why) => why.number(),
+    }
 }

@@ -12,7 +12,9 @@ use Rattle.ground.specs.Choice.{pick}
 use Rattle.ground.specs.Refusals.{number_of}
 use Rattle.ground.specs.declared.refusals.Refusal.{Refusal}
 use Rattle.ground.specs.declared.refusals.Refusal.TheVariants.{Unknown, NoSuchMode, ValueMissing, BadRegister, SingleStepIndirect, BadWidth, DirectNotAllowed, BranchTooFar, NoRoom, BadLabel, TooDeep, SegmentRepeated, NotSettled, Undefined, CutShort, BrokenText, OverLimit, Beyond}
-use Rattle.rows.specs.Lookup.{refusal_of}
+use Rattle.rows.specs.declared.Code.{Code}
+use Rattle.rows.specs.declared.Named.{Named}
+use Rattle.rows.specs.Lookup.{refusal_of, values_of, values_of_named}
 
 -- in 01's order
 abbrev refusals : List Refusal
@@ -54,3 +56,20 @@ pub same_number : (r s : Refusal) → number_of r ≡ number_of s → r ≡ s
 same_number r s e =
     let d : ◌≡◌ {A = Result ℕ Refusal} (Err r) (Err s) = sym (refusal_told 0 r) ∙ ap (λ (n : ℕ). answer_from n 0) e ∙ refusal_told 0 s in
     cc
+
+-- ---- with its values
+abbrev coded_from : ℕ → List ℕ → Result Code Refusal
+coded_from n values = answer_from n (record { page = get_or values 0 0; code = get_or values 1 0 })
+
+pub coded_told : (a : Result Code Refusal) → coded_from (refusal_of a) (values_of a) ≡ a
+unfolding pick
+coded_told (Ok c) = refl
+coded_told (Err r) = refusal_told (record { page = 0; code = 0 }) r
+
+abbrev named_from : ℕ → List ℕ → Result Named Refusal
+named_from n values = answer_from n (record { operation = get_or values 0 0; form = get_or values 1 0 })
+
+pub named_told : (a : Result Named Refusal) → named_from (refusal_of a) (values_of_named a) ≡ a
+unfolding pick
+named_told (Ok n) = refl
+named_told (Err r) = refusal_told (record { operation = 0; form = 0 }) r

@@ -66,6 +66,15 @@ abbrev pub refusal_of : {A : Type 0} → Result A Refusal → ℕ
 refusal_of (Ok a) = 0
 refusal_of (Err refusal) = number_of refusal
 
+-- the values of an answer: a code's page and code, and an operation and its form as docs/ROWS.md numbers them; a refusal has none
+abbrev pub values_of : Result Code Refusal → List ℕ
+values_of (Ok c) = c.page ∷ c.code ∷ []
+values_of (Err refusal) = []
+
+abbrev pub values_of_named : Result Named Refusal → List ℕ
+values_of_named (Ok n) = n.operation ∷ n.form ∷ []
+values_of_named (Err refusal) = []
+
 abbrev pub named : ℕ → ℕ → Result Named Refusal
 named operation form = Ok (record { operation = operation; form = form })
 

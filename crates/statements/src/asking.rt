@@ -78,7 +78,8 @@ fn character(number: u16) -> Result<Value, Refusal>
     Err(Refusal::Unknown)
 }
 
-// What one item of a statement stands for.
+// What one item of a statement stands for. Compiled into its two callers, of which one asks for the refusal alone.
+#[inline(always)]
 pub(crate) fn datum(
     datum: Datum,
     nodes: &[u16],

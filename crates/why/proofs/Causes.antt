@@ -32,7 +32,7 @@ use Rattle.instruction.specs.Forms.{becomes_direct, extended_form, register_form
 use Rattle.instruction.specs.Choosing.{inherent_of, immediate_of, forced_wide, address_of, long_branch, branch_of, register_at, accumulator_index, offset_index, target_index, step_index, address_index, index_of, listed_of, registers_of, choose_of, list_settled}
 use Rattle.instruction.specs.Building.{instruction_of, early_of, finished_of, fresh_of, after, tried_of, told}
 use Rattle.instruction.proofs.Tests.{or_left, or_right}
-use Rattle.instruction.proofs.Ready.{early_made, fresh_built}
+use Rattle.instruction.proofs.Ready.{early_made, fresh_tried}
 use Rattle.instruction.proofs.Fits.{Early, early_leaves}
 use Rattle.instruction.proofs.Choice.{not_strange, last_form, listed_four, address_choice}
 use Rattle.instruction.proofs.Results.{of_ok}
@@ -273,7 +273,7 @@ module _ (r : Record) (address : ℕ) (whole : (recognised r.operand && lawful r
       go (Err n) e k = k
 
   pub cause : Cause r (told (fresh_of r address))
-  cause = rw (fresh_built r address) build_cause
+  cause = rw (fresh_tried r address) build_cause
 
 -- which is not refused 1
 pub not_one : {r : Record} {n : ℕ} → Cause r n → n ≡ unknown → ⊥

@@ -18,7 +18,7 @@ use Rattle.instruction.specs.Choosing.{choose_of}
 use Rattle.instruction.specs.Bytes.{operand_bytes, code_size, laid_at, laid_of}
 use Rattle.instruction.specs.Building.{instruction_of, accepted_of, tried_of, fresh_of}
 use Rattle.instruction.proofs.Rows.{has_code}
-use Rattle.instruction.proofs.Ready.{fresh_built}
+use Rattle.instruction.proofs.Ready.{fresh_tried}
 use Rattle.instruction.proofs.Fits.{Early, early_leaves, Fits, Builds, build_chosen}
 use Rattle.instruction.proofs.Results.{of_ok}
 use Rattle.instruction.proofs.Seven.{late_choice}
@@ -43,7 +43,7 @@ pub record Accepts (r : Record) (address : ℕ) (b : Built) : Type 0 where
 -- what holds of all that is chosen and laid down holds of a fresh build
 pub accepted : (r : Record) (address : ℕ) (P : Built → Type 0) → ((b : Built) → Accepts r address b → P b) → IfOk (fresh_of r address) P
 unfolding instruction_of
-accepted r address P h = rw (fresh_built r address) (go (tried_of (makes r) r.values r.page address) (build_chosen (makes r) r.values r.page address))
+accepted r address P h = rw (fresh_tried r address) (go (tried_of (makes r) r.values r.page address) (build_chosen (makes r) r.values r.page address))
   where
     go : (t : Result Built Refusal) → IfOk t (Builds (makes r) r.values r.page address) → IfOk t P
     go (Ok b) k = h b (record { choice = k.choice; early = k.early; chosen = k.chosen; fits = k.fits; built = k.built })
@@ -54,7 +54,7 @@ pub refused_late :
     (r : Record) (address : ℕ) (m : Refusal) → number_of ValueMissing < number_of m → fresh_of r address ≡ Err m →
     Early (makes r) r.values × (chosen_of r address ≡ Err m)
 refused_late r address m late e =
-    let d = late_choice (makes r) r.values r.page address m late (sym (fresh_built r address) ∙ e) in
+    let d = late_choice (makes r) r.values r.page address m late (sym (fresh_tried r address) ∙ e) in
     (of_ok (λ (_ : ⊤). Early (makes r) r.values) (early_leaves (makes r) r.values) d.0, d.1)
 
 -- ---- its length
