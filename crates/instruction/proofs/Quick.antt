@@ -218,16 +218,16 @@ refused_whole i v page address n = go (tried_of i v page address)
     go (Ok b) e = absurd (cc)
     go (Err m) e = cc
 
--- so that what is handed back loses nothing in what it comes to and the operand
+-- so that what is handed back loses nothing in what it comes to and the instruction
 pub with_outcome_lem :
     (i : Instruction) (v : Values) (page : Page) (address : ℕ) →
-    result_map_both (with_outcome i) (λ n. n) (outcome_of (told_of (build_of i v page address))) ≡ told_of (build_of i v page address)
+    handing i (result_map_both (with_outcome i) (λ n. n) (outcome_of (told_of (build_of i v page address)))) ≡ build_of i v page address
 unfolding build_of Whole
 with_outcome_lem i v page address = go (tried_of i v page address) (with_whole i v page address)
   where
     go :
         (t : Result Built Refusal) →
         IfOk t (Whole i) →
-        result_map_both (with_outcome i) (λ n. n) (outcome_of (told_of (handing i t))) ≡ told_of (handing i t)
-    go (Ok b) w = ap {B = Result Built Refusal} Ok w
+        handing i (result_map_both (with_outcome i) (λ n. n) (outcome_of (told_of (handing i t)))) ≡ handing i t
+    go (Ok b) w = ap {B = Result Built Refused} Ok w
     go (Err n) w = refl

@@ -22,8 +22,7 @@ pub const ROOM: usize = 262158;
 // "At most 65,536 bytes of text", and a run has no more of its own.
 const LONGEST: usize = 65536;
 
-// How far a listing is written: its end so far, how many instructions it has, and the number of the refusal that ends it, if there is one. A number, as
-// the decoder hands it out and as it is printed.
+// How far a listing is written: its end so far, how many instructions it has, and the refusal that ends it, if there is one.
 #[derive(Clone, Copy)]
 struct Progress {
     at: usize,
