@@ -130,15 +130,14 @@ for name, number in crate.items():
 for name, number in numbered("Meaning kinds").items():
     if name != "none" and numbers.get("JW_KIND_" + name.upper()) != number:
         differing.append(f"JW_KIND_{name.upper()}: not {number}")
-variants = re.search(r"pub enum Refusal \{(.*?)\}", read("crates/ground/src/refusals.rt"), re.S).group(1)
-first, *later = [line.strip(" ,") for line in variants.split("\n") if line.strip()]
-if not first.endswith(" = 1") or any(not name.isalpha() for name in later):
+variants = re.findall(r"^    (\w+)(?: = (\d+))?,$", read("crates/ground/src/refusals.rt"), re.M)
+if [given for _, given in variants] != ["1"] + [""] * (len(variants) - 1):
     differing.append("the refusals of the source are not numbered from 1 on")
-refusals = {"ACCEPTED": 0} | {shouted(name): n for n, name in enumerate([first.split()[0], *later], 1)}
-header_refusals = {name: int(n) for name, n in re.findall(r"JW_(\w+) = (\d+)", re.search(r"enum jw_refusal \{(.*?)\};", header, re.S).group(1))}
-for name in refusals | header_refusals:
-    if refusals.get(name) != header_refusals.get(name):
-        differing.append(f"JW_{name}: {header_refusals.get(name)} in the header, {refusals.get(name)} in the source")
+refusals = {"JW_ACCEPTED": 0} | {"JW_" + shouted(name): number for number, (name, _) in enumerate(variants, 1)}
+refusals_declared = re.findall(r"(JW_\w+) = ", re.search(r"enum jw_refusal \{.*?\};", header, re.S).group())
+for name in dict.fromkeys([*refusals, *refusals_declared]):
+    if numbers.get(name) != refusals.get(name):
+        differing.append(f"{name}: {numbers.get(name)} in the header, {refusals.get(name)} in the source")
 
 for line in differing:
     print(line)
